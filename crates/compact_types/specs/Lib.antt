@@ -1,0 +1,11 @@
+pub mod formers
+pub mod Lending
+pub mod Refusals
+pub mod Lookups
+pub mod Ways
+pub mod Segments
+pub mod Drawings
+pub mod Sums
+pub mod Lengths
+pub mod Orders
+pub mod Bests

@@ -1,0 +1,20 @@
+-- The order of drawings.
+use Rattle.std.specs.Prelude.{◌≡◌, ℤ, ◌<ℤ◌, List, [], ◌∷◌, ◌⊎◌}
+use Rattle.compact_types.specs.declared.places.Point.{Point}
+use Rattle.compact_types.specs.declared.places.Key.{Key}
+
+-- the numbers x0, y0, x1, y1, .. of some points
+abbrev pub numbers_of : List Point → List ℤ
+numbers_of [] = []
+numbers_of (point ∷ points) = point.x ∷ point.y ∷ numbers_of points
+
+-- at the first difference of two equally long lists the first has the lesser number
+abbrev pub IsListBefore : List ℤ → List ℤ → Type 0
+IsListBefore [] numbers = ⊥
+IsListBefore (a ∷ before) [] = ⊥
+IsListBefore (a ∷ before) (b ∷ after) = (a <ℤ b) ⊎ ((a ≡ b) × IsListBefore before after)
+
+-- a key with equally many points comes before another: its worth is less, or equal with the lesser list of numbers
+abbrev pub IsBefore : Key → Key → Type 0
+IsBefore k l =
+    (k.worth <ℤ l.worth) ⊎ ((k.worth ≡ l.worth) × IsListBefore (numbers_of k.places.xy) (numbers_of l.places.xy))
