@@ -1,0 +1,4 @@
+pub mod Bytes
+pub mod Numerals
+pub mod Texts
+pub mod Trees

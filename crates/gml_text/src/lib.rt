@@ -1,0 +1,8 @@
+//! GML texts (Himsolt's Graph Modelling Language): the tree of a text, and the value of a numeral.
+//!
+//! The layer above relies on `Spells`: the reader answers a tree exactly where the text has one.
+#![tactic(auto)]
+
+pub mod number;
+pub mod plain;
+pub mod tree;
