@@ -1,4 +1,5 @@
 pub mod Bytes
+pub mod NumeralKinds
 pub mod Numerals
 pub mod Texts
 pub mod Trees
