@@ -1,6 +1,6 @@
 -- A numeral has one way to be split into its parts.
 use Rattle.std.proofs.Common.{◌≡◌, ℕ, suc, ◌+◌, ◌<◌, Bool, true, false, cond, List, [], ◌∷◌, ◌++◌, length, take, drop, Option, None, Some, refl, sym, ap, add_comm, add-one, ◌∙◌, ◌⊎◌, inl, inr, arith, eqb, ◌&&◌, ◌||◌}
-use Rattle.std.specs.Prelude.{◌==◌}
+use Rattle.std.specs.Prelude.{◌==◌, nat_lt}
 use Rattle.std.specs.List.{list_all, prefix_len, take_while}
 use Rattle.std.specs.Option.{is_some, IsSome}
 use Rattle.std.proofs.lemmas.List.{take-append-drop, take_at, drop_at}
@@ -146,3 +146,95 @@ pub body_no_sign : (whole : List ℕ) (f : Option (List ℕ)) (e : List ℕ) →
 body_no_sign [] None e h k = absurd (omega arith)
 body_no_sign [] (Some digits) e h k = refl
 body_no_sign (b ∷ whole) f e h k = digit_is_no_sign b (and_true (is_digit b) (list_all is_digit whole) h).0
+
+same_numeral : (n : Numeral) {s : Sign} {w : List ℕ} {f : Option (List ℕ)} {e : Option Exponent} →
+    s ≡ n.sign → w ≡ n.whole → f ≡ n.fraction → e ≡ n.exponent →
+    let m : Numeral = record { sign = s; whole = w; fraction = f; exponent = e } in m ≡ n
+same_numeral n p q r t = rw (p, q, r, t) refl
+
+parts_from : (n : Numeral) (sign : Sign) (body : List ℕ) → sign ≡ n.sign → front_digits body ≡ n.whole →
+    fraction_of (after_digits body) ≡ n.fraction → exponent_of (after_fraction (after_digits body)) ≡ n.exponent →
+    parts_after sign body ≡ n
+parts_from n sign body s w f e = same_numeral n s w f e
+
+pub parts_are : (n : Numeral) → IsNumeral n → parts_of (numeral_text n) ≡ n
+unfolding parts_of
+parts_are n h =
+    let after : List ℕ = fraction_text n.fraction ++ exponent_text n.exponent in
+    let unsigned : begins_sign (n.whole ++ after) ≡ false =
+        body_no_sign n.whole n.fraction (exponent_text n.exponent) h.whole h.some_digit in
+    let s : sign_of (numeral_text n) ≡ n.sign = sign_read n.sign (n.whole ++ after) unsigned in
+    let t : after_sign (numeral_text n) ≡ n.whole ++ after = after_sign_read n.sign (n.whole ++ after) unsigned in
+    let d : begins_digit after ≡ false = fraction_no_digit n.fraction n.exponent h.exponent in
+    parts_from n (sign_of (numeral_text n)) (after_sign (numeral_text n)) s
+    (ap front_digits t ∙ front_of n.whole after h.whole d)
+    (ap fraction_of (ap after_digits t ∙ rest_of n.whole after h.whole d) ∙ fraction_read n.fraction n.exponent h.fraction h.exponent)
+    (ap exponent_of (ap after_fraction (ap after_digits t ∙ rest_of n.whole after h.whole d) ∙ after_fraction_read n.fraction n.exponent h.fraction h.exponent)
+    ∙ exponent_read n.exponent h.exponent)
+
+-- whatever parts a word has are those that are read
+pub parts_of-is : (word : List ℕ) (n : Numeral) → HasParts word n → parts_of word ≡ n
+parts_of-is word n p = ap parts_of p.written ∙ parts_are n p.numeral
+
+-- ---- the tests of the parts
+
+pub or_true : (a b : Bool) → (a || b) ≡ true → (a ≡ true) ⊎ (b ≡ true)
+or_true true b h = inl refl
+or_true false b h = inr h
+
+pub are_digits-all : (digits : List ℕ) → are_digits digits ≡ true → list_all is_digit digits ≡ true
+are_digits-all [] h = cc
+are_digits-all (b ∷ digits) h = h
+
+pub are_digits-some : (digits : List ℕ) → are_digits digits ≡ true → 0 < length digits
+are_digits-some [] h = cc
+are_digits-some (b ∷ digits) h = omega arith
+
+pub all-are_digits : (digits : List ℕ) → list_all is_digit digits ≡ true → 0 < length digits → are_digits digits ≡ true
+all-are_digits [] h k = absurd (omega arith)
+all-are_digits (b ∷ digits) h k = h
+
+letter_from_test : (b : ℕ) → ((b == 101) || (b == 69)) ≡ true → (b ≡ 101) ⊎ (b ≡ 69)
+letter_from_test b h = grind (arith, nat_tests)
+
+test_from_letter : (b : ℕ) → (b ≡ 101) ⊎ (b ≡ 69) → ((b == 101) || (b == 69)) ≡ true
+test_from_letter b (inl e) = rw e refl
+test_from_letter b (inr e) = rw e refl
+
+pub exponent_from_test : (e : Option Exponent) → is_exponent e ≡ true → IsExponent e
+exponent_from_test None h = tt
+exponent_from_test (Some e) h =
+    let both = and_true ((e.letter == 101) || (e.letter == 69)) (are_digits e.digits) h in
+    (letter_from_test e.letter both.0, are_digits-all e.digits both.1, are_digits-some e.digits both.1)
+
+pub test_from_exponent : (e : Option Exponent) → IsExponent e → is_exponent e ≡ true
+test_from_exponent None h = refl
+test_from_exponent (Some e) h = rw (test_from_letter e.letter h.0, all-are_digits e.digits h.1 h.2) refl
+
+fraction_all_digits : (text : List ℕ) → list_all is_digit (fraction_digits (fraction_of text)) ≡ true
+fraction_all_digits [] = refl
+fraction_all_digits (b ∷ text) =
+    elim (b == 46) as (λ d. list_all is_digit (fraction_digits (cond d (Some (front_digits text)) None)) ≡ true) [
+      true ↦ all_digits text
+    | false ↦ refl
+    ]
+
+above_zero : (n : ℕ) → nat_lt 0 n ≡ true → 0 < n
+above_zero n h = grind (arith, nat_tests)
+
+pub parts_from_tests : (word : List ℕ) → (has_digit (parts_of word) && is_exponent (parts_of word).exponent) ≡ true → HasParts word (parts_of word)
+unfolding parts_of
+parts_from_tests word h =
+    let both = and_true (has_digit (parts_of word)) (is_exponent (parts_of word).exponent) h in
+    record {
+      numeral = record {
+        whole = all_digits (after_sign word);
+        fraction = fraction_all_digits (after_digits (after_sign word));
+        some_digit = above_zero (length (parts_of word).whole + length (fraction_digits (parts_of word).fraction)) both.0;
+        exponent = exponent_from_test (parts_of word).exponent both.1;
+      };
+      written = sym (parts_written word);
+    }
+
+pub tests_from_parts : (n : Numeral) → IsNumeral n → (has_digit n && is_exponent n.exponent) ≡ true
+tests_from_parts n h = rw (test_from_exponent n.exponent h.exponent) (grind (arith, nat_tests, h.some_digit))
