@@ -4,6 +4,9 @@
 //! that was handed in.
 #![tactic(auto)]
 
+pub mod memory_sink;
+pub mod memory_source;
 pub mod sink;
 pub mod source;
+pub mod streams;
 pub mod transfer;
