@@ -90,3 +90,137 @@ pub fn write_all<K: Sink>(sink: &mut K, bytes: &[u8]) -> Result<(), WriteFault>
     }
     Ok(())
 }
+
+#[cfg(test)]
+mod tests {
+    use super::*;
+    use crate::memory_sink::MemorySink;
+    use crate::memory_source::{MemorySource, PlainSource};
+    use std::process::Abort;
+    use std::test::Fail;
+
+    const TEXT: &[u8] = b"abcdef";
+
+    fn assert_read(
+        rt: &impl Abort,
+        alloc: Global,
+        piece: usize,
+        failing: &[u64],
+        limit: usize,
+        expected: Result<&[u8], ReadEnd>,
+    ) -> Result<(), Fail>
+        requires { 0 < piece }
+    {
+        let bytes = Vec::from_slice(alloc, TEXT)?;
+        let mut source = MemorySource::new(bytes, piece, Vec::from_slice(alloc, failing)?);
+        let read = read_all(alloc, &mut source, limit);
+        let shown = match &read {
+            Ok(bytes) => Ok(bytes.as_slice()),
+            Err(end) => Err(*end),
+        };
+        assert_eq!(rt; shown, expected, "pieces of {piece}, limit {limit}");
+        Ok(())
+    }
+
+    #[test]
+    fn reads_all_or_says_why(rt: HostRuntime) -> Result<(), Fail> {
+        let alloc = rt.alloc();
+        // The limit.
+        assert_read(&rt, alloc, 2, &[], 6, Ok(TEXT))?;
+        assert_read(&rt, alloc, 9, &[], 6, Ok(TEXT))?;
+        assert_read(&rt, alloc, 9, &[], usize::MAX, Ok(TEXT))?;
+        assert_read(&rt, alloc, 2, &[], 5, Err(ReadEnd::TooLong))?;
+        assert_read(&rt, alloc, 9, &[], 5, Err(ReadEnd::TooLong))?;
+        assert_read(&rt, alloc, 9, &[], 0, Err(ReadEnd::TooLong))?;
+
+        // Reads that fail: the first, one in mid-stream, the one that would be the end, one that is never made.
+        assert_read(&rt, alloc, 2, &[1], 6, Err(ReadEnd::ReadFault))?;
+        assert_read(&rt, alloc, 2, &[3], 6, Err(ReadEnd::ReadFault))?;
+        assert_read(&rt, alloc, 2, &[4], 6, Err(ReadEnd::ReadFault))?;
+        assert_read(&rt, alloc, 2, &[5], 6, Ok(TEXT))?;
+
+        // The earlier of two reasons.
+        assert_read(&rt, alloc, 1, &[2], 1, Err(ReadEnd::ReadFault))?;
+        assert_read(&rt, alloc, 1, &[3], 1, Err(ReadEnd::TooLong))
+    }
+
+    #[test]
+    fn reads_plain_bytes(rt: HostRuntime) -> Result<(), Fail> {
+        let all = read_all(rt.alloc(), &mut PlainSource::new(TEXT), 6)
+            .ok()
+            .ok_or("read")?;
+        assert_eq!(rt; all.as_slice(), TEXT);
+        let none = read_all(rt.alloc(), &mut PlainSource::new(b""), 0)
+            .ok()
+            .ok_or("read")?;
+        assert_eq!(rt; none.len(), 0);
+        Ok(())
+    }
+
+    fn assert_written(
+        rt: &impl Abort,
+        alloc: Global,
+        room: usize,
+        piece: usize,
+        failing: &[u64],
+        expected: Result<(), WriteFault>,
+        held: &[u8],
+    ) -> Result<(), Fail>
+        requires { 0 < piece }
+    {
+        let failing = Vec::from_slice(alloc, failing)?;
+        let mut sink = MemorySink::new(alloc, room, piece, failing)
+            .ok()
+            .ok_or("room")?;
+        assert_eq!(rt;
+            write_all(&mut sink, TEXT),
+            expected,
+            "room {room}, pieces of {piece}"
+        );
+        assert_eq!(rt; sink.bytes(), held, "room {room}, pieces of {piece}");
+        Ok(())
+    }
+
+    #[test]
+    fn writes_all_or_a_front(rt: HostRuntime) -> Result<(), Fail> {
+        let alloc = rt.alloc();
+        // The room.
+        assert_written(&rt, alloc, 6, 2, &[], Ok(()), TEXT)?;
+        assert_written(&rt, alloc, 9, 4, &[], Ok(()), TEXT)?;
+        assert_written(&rt, alloc, 6, 9, &[], Ok(()), TEXT)?;
+        assert_written(&rt, alloc, 5, 2, &[], Err(WriteFault), b"abcde")?;
+        assert_written(&rt, alloc, 0, 2, &[], Err(WriteFault), b"")?;
+
+        // Writes that fail: the first, one in mid-stream, one that is never made.
+        assert_written(&rt, alloc, 6, 2, &[1], Err(WriteFault), b"")?;
+        assert_written(&rt, alloc, 6, 2, &[3], Err(WriteFault), b"abcd")?;
+        assert_written(&rt, alloc, 6, 2, &[4], Ok(()), TEXT)
+    }
+
+    #[test]
+    fn an_empty_piece_needs_no_room(rt: HostRuntime) -> Result<(), Fail> {
+        let alloc = rt.alloc();
+        let failing = Vec::from_slice(alloc, &[2])?;
+        let mut sink = MemorySink::new(alloc, 0, 1, failing).ok().ok_or("room")?;
+        assert_eq!(rt; sink.write(b""), Ok(0));
+        assert_eq!(rt; sink.write(b"").is_err(), true);
+        assert_eq!(rt; write_all(&mut sink, b""), Ok(()));
+        Ok(())
+    }
+
+    fn both<T: Send + Sync>(_value: &T) {}
+
+    #[test]
+    fn ends_cross_threads(rt: HostRuntime) -> Result<(), Fail> {
+        let alloc = rt.alloc();
+        both(&MemorySource::new(Vec::new(alloc), 1, Vec::new(alloc)));
+        both(&PlainSource::new(TEXT));
+        both(
+            &MemorySink::new(alloc, 0, 1, Vec::new(alloc))
+                .ok()
+                .ok_or("room")?,
+        );
+        both(&(Step::End, ReadEnd::TooLong, WriteFault));
+        Ok(())
+    }
+}
