@@ -1,12 +1,12 @@
 -- The equations of the text of a tree.
-use Rattle.std.proofs.Common.{◌≡◌, ℕ, zero, suc, List, [], ◌∷◌, ◌++◌, ap, sym, refl, ◌∙◌}
+use Rattle.std.proofs.Common.{◌≡◌, ℕ, zero, suc, List, [], ◌∷◌, ◌++◌, ap, refl, ◌∙◌, append_assoc}
 use Rattle.std.specs.Prelude.{map}
 use Rattle.std.specs.List.{flat_map}
 use Rattle.gml_text.specs.declared.tree.Tree.{Tree, Tree-F, out-Tree, map-Tree, fold-Tree, fold_out-Tree}
 use Rattle.gml_text.specs.declared.tree.Pair.{Pair, Pair-F, out-Pair, map-Pair, fold-Pair, fold_out-Pair}
 use Rattle.gml_text.specs.declared.tree.Value.{Value, Value-F, out-Value, map-Value, fold-Value, fold_out-Value}
 use Rattle.gml_text.specs.declared.tree.Value.TheVariants.{Whole, Real, Text, Inner}
-use Rattle.gml_print.specs.Printing.{value_step, pair_step, tree_step, printed_at, line, value_text, pair_text}
+use Rattle.gml_print.specs.Printing.{space, line_feed, opening_bracket, closing_bracket, indentation, bracketed, value_step, pair_step, tree_step, printed_at, line, value_text, pair_text}
 
 abbrev Lines : Type 0
 Lines = ℕ → List ℕ
@@ -35,3 +35,14 @@ pub printed_at_lines : (tree : Tree) (depth : ℕ) → printed_at tree depth ≡
 printed_at_lines tree depth =
     ap (λ (lines : Lines). lines depth) (fold_out-Tree Lines Lines Lines value_step pair_step tree_step tree) ∙
     flat_map_of_folds depth (out-Tree tree).pairs
+
+-- two more spaces are the indentation of the next depth
+pub indentation_deeper : (depth : ℕ) → indentation depth ++ space ∷ space ∷ [] ≡ indentation (suc depth)
+indentation_deeper zero = refl
+indentation_deeper (suc depth) = ap (λ spaces. space ∷ space ∷ spaces) (indentation_deeper depth)
+
+-- what is written for a list, one piece after another
+pub bracketed_pieces : (depth : ℕ) (before opened lines written spaces indented closed : List ℕ) →
+    opened ≡ before ++ opening_bracket ∷ line_feed ∷ [] → written ≡ opened ++ lines → spaces ≡ indentation depth →
+    indented ≡ written ++ spaces → closed ≡ indented ++ closing_bracket ∷ [] → closed ≡ before ++ bracketed depth lines
+bracketed_pieces depth before opened lines written spaces indented closed o w s i c = rw (c, i, s, w, o) (simp append_assoc)
