@@ -2,9 +2,9 @@
 use Rattle.std.proofs.Common.{◌≡◌, ℕ, zero, suc, List, [], ◌∷◌, ◌++◌, ap, refl, ◌∙◌, append_assoc}
 use Rattle.std.specs.Prelude.{map}
 use Rattle.std.specs.List.{flat_map}
-use Rattle.gml_text.specs.declared.tree.Tree.{Tree, Tree-F, out-Tree, map-Tree, fold-Tree, fold_out-Tree}
-use Rattle.gml_text.specs.declared.tree.Pair.{Pair, Pair-F, out-Pair, map-Pair, fold-Pair, fold_out-Pair}
-use Rattle.gml_text.specs.declared.tree.Value.{Value, Value-F, out-Value, map-Value, fold-Value, fold_out-Value}
+use Rattle.gml_text.specs.declared.tree.Tree.{Tree, Tree-F, out-Tree, roll-Tree, out-roll-Tree, fold_out-Tree}
+use Rattle.gml_text.specs.declared.tree.Pair.{Pair, fold-Pair, fold_out-Pair}
+use Rattle.gml_text.specs.declared.tree.Value.{Value, out-Value, fold-Value, fold_out-Value}
 use Rattle.gml_text.specs.declared.tree.Value.TheVariants.{Whole, Real, Text, Inner}
 use Rattle.gml_print.specs.Printing.{space, line_feed, opening_bracket, closing_bracket, indentation, bracketed, value_step, pair_step, tree_step, printed_at, line, value_text, pair_text}
 
@@ -46,3 +46,11 @@ pub bracketed_pieces : (depth : ℕ) (before opened lines written spaces indente
     opened ≡ before ++ opening_bracket ∷ line_feed ∷ [] → written ≡ opened ++ lines → spaces ≡ indentation depth →
     indented ≡ written ++ spaces → closed ≡ indented ++ closing_bracket ∷ [] → closed ≡ before ++ bracketed depth lines
 bracketed_pieces depth before opened lines written spaces indented closed o w s i c = rw (c, i, s, w, o) (simp append_assoc)
+
+-- the text of a tree made of these pairs
+pub printed_at_pairs : (pairs : List Pair) (depth : ℕ) →
+    printed_at (roll-Tree (record { pairs = pairs })) depth ≡ flat_map (λ pair. pair_text pair depth) pairs
+printed_at_pairs pairs depth =
+    let made : Tree-F Value Pair Tree = record { pairs = pairs } in
+    printed_at_lines (roll-Tree made) depth ∙
+    ap (λ (layer : Tree-F Value Pair Tree). flat_map (λ pair. pair_text pair depth) layer.pairs) (out-roll-Tree made)

@@ -83,3 +83,64 @@ fn shorten(indent: &mut Items<u8>)
     indent.pop();
     indent.pop();
 }
+
+#[cfg(test)]
+mod tests {
+    use super::*;
+    use std::test::Fail;
+
+    fn pair(alloc: Global, key: &[u8], value: Value) -> Result<Pair, NoMemory> {
+        let key = Items::from_slice(alloc, key)?;
+        Ok(Pair { key, value, at: 0 })
+    }
+
+    fn list(pairs: Vec<Pair>) -> Value {
+        Value::Inner(Tree {
+            pairs: Items::from_vec(pairs),
+        })
+    }
+
+    /// A list in a list, and one with nothing in it.
+    fn graph(alloc: Global) -> Result<Value, Fail> {
+        let id = Value::Whole(Items::from_slice(alloc, b"-007")?);
+        let node = list(vec![in alloc; pair(alloc, b"id", id)?]?);
+        let edge = list(Vec::new(alloc));
+        Ok(list(vec![in alloc; pair(alloc, b"node", node)?, pair(alloc, b"edge", edge)?]?))
+    }
+
+    /// All four kinds of value.
+    fn file(alloc: Global) -> Result<Tree, Fail> {
+        let version = Value::Whole(Items::from_slice(alloc, b"+1")?);
+        let scale = Value::Real(Items::from_slice(alloc, b".5E-3")?);
+        let label = Value::Text(Items::from_slice(alloc, b"# a\n\xc3\xa9 [")?);
+        let pairs = vec![in alloc;
+            pair(alloc, b"version", version)?,
+            pair(alloc, b"graph", graph(alloc)?)?,
+            pair(alloc, b"scale", scale)?,
+            pair(alloc, b"label", label)?
+        ]?;
+        Ok(Tree {
+            pairs: Items::from_vec(pairs),
+        })
+    }
+
+    #[test]
+    fn texts_of_trees(rt: HostRuntime) -> Result<(), Fail> {
+        let alloc = rt.alloc();
+        let empty = Tree {
+            pairs: Items::new(alloc),
+        };
+        let cases = [
+            (empty, b"".as_slice()),
+            (
+                file(alloc)?,
+                b"version +1\ngraph [\n  node [\n    id -007\n  ]\n  edge [\n  ]\n]\nscale .5E-3\nlabel \"# a\n\xc3\xa9 [\"\n".as_slice(),
+            ),
+        ];
+        for (tree, text) in cases.iter() {
+            let printed = print_tree(alloc, tree)?;
+            assert_eq!(rt; printed.as_slice(), *text);
+        }
+        Ok(())
+    }
+}
