@@ -1,2 +1,3 @@
 pub mod Printing
 pub mod Numbers
+pub mod Placing

@@ -1,0 +1,4 @@
+pub mod Chains
+pub mod Plain
+pub mod Views
+pub mod Commands

@@ -1,0 +1,7 @@
+//! The program: it compacts orthogonal drawings in GML.
+#![tactic(auto)]
+
+mod chain;
+mod command;
+
+fn main() {}
