@@ -1,10 +1,10 @@
-ghost use Rattle.std.specs.Prelude.{◌≡◌, true, if◌then◌else◌, nat_lt, is_some, FitsSigned, ◌+◌, ◌<◌, ◌≤◌, ◌^◌, length};
+ghost use Rattle.std.specs.Prelude.{◌≡◌, ◌↔◌, ℕ, List, true, if◌then◌else◌, nat_lt, is_some, FitsSigned, ◌+◌, ◌<◌, ◌≤◌, ◌^◌, length};
 ghost use Rattle.std.specs.Int.{w64};
 ghost use Rattle.std.specs.List.{list_all, prefix_len};
 ghost use Rattle.std.specs.Option.{SomeIff};
 ghost use Rattle.gml_text.specs.Bytes.{is_digit};
-ghost use Rattle.gml_text.specs.NumeralKinds.{HasTheParts, kind_of, is_exponent, exponent_of, is_minus, sign_of, after_sign, front_digits, after_digits, fraction_of, after_fraction};
-ghost use Rattle.gml_text.specs.Numerals.{is_whole_numeral, value_of_whole, digits_value, are_digits, fraction_digits};
+ghost use Rattle.gml_text.specs.NumeralKinds.{HasTheParts, is_numeral, kind_of, is_exponent, exponent_of, is_minus, sign_of, after_sign, front_digits, after_digits, fraction_of, after_fraction};
+ghost use Rattle.gml_text.specs.Numerals.{is_whole_numeral, value_of_whole, digits_value, are_digits, fraction_digits, Numeral, HasParts, HasNoPoint, whole_value};
 
 /// Whether a numeral is written without a point and an exponent, or with one of them.
 #[derive(Clone, Copy, Debug)]
@@ -158,4 +158,14 @@ fn all_digits(text: &[u8]) -> bool
     ensures { result ≡ list_all is_digit text.now }
 {
     text.iter().all(|b| b.is_ascii_digit())
+}
+
+/// The two readings of whole numerals agree, by the bytes of the word and by the parts of the numeral; and a word is
+/// a numeral exactly where it has the parts of one.
+pub fn numerals_have_parts()
+    ensures whole { (word : List ℕ) → (is_whole_numeral word ≡ true) ↔ ((n : Numeral) × HasParts word n × HasNoPoint n) }
+    ensures value { (word : List ℕ) (n : Numeral) → HasParts word n → HasNoPoint n → value_of_whole word ≡ whole_value n }
+    ensures numeral { (word : List ℕ) → (is_numeral word ≡ true) ↔ ((n : Numeral) × HasParts word n) }
+    ensures only { (word : List ℕ) (m n : Numeral) → HasParts word m → HasParts word n → m ≡ n }
+{
 }
