@@ -1,14 +1,14 @@
 -- The function that tells the kind of a word agrees with the definitions of numerals.
-use Rattle.std.specs.Prelude.{nat_lt}
+use Rattle.std.specs.Prelude.{◌==◌}
 use Rattle.std.proofs.Common.{◌≡◌, ℕ, ◌+◌, ◌<◌, Bool, true, false, cond, List, [], ◌∷◌, ◌++◌, length, Option, None, Some, refl, sym, ap, ◌∙◌, ◌⊎◌, inl, inr, arith, ◌&&◌, ◌||◌, subst}
 use Rattle.std.specs.Option.{is_some, IsSome}
 use Rattle.std.proofs.lemmas.List.{append-nil}
 use Rattle.std.proofs.lemmas.Bool.Decides.{nat_tests}
 use Rattle.gml_text.specs.declared.number.NumeralKind.{NumeralKind}
 use Rattle.gml_text.specs.declared.number.NumeralKind.TheVariants.{Whole, Real}
-use Rattle.gml_text.specs.Numerals.{Sign, no_sign, plus, minus, Exponent, Numeral, HasParts, IsNumeral, HasNoPoint, IsRealNumeral, is_whole_numeral, are_digits, is_sign, sign_text, numeral_text, fraction_digits}
+use Rattle.gml_text.specs.Numerals.{Sign, no_sign, plus, minus, Exponent, Numeral, HasParts, IsNumeral, HasNoPoint, value_of_whole, whole_value, with_sign, digits_value, IsRealNumeral, is_whole_numeral, are_digits, is_sign, sign_text, numeral_text, fraction_digits}
 use Rattle.gml_text.specs.NumeralKinds.{kind_of, kind_of_parts, parts_of, has_digit, is_exponent, is_real, is_numeral, sign_of, after_sign}
-use Rattle.gml_text.proofs.NumeralParts.{parts_of-is, parts_from_tests, tests_from_parts, sign_written, are_digits-all, are_digits-some, all-are_digits, digits_no_sign}
+use Rattle.gml_text.proofs.NumeralParts.{parts_of-is, parts_from_tests, tests_from_parts, sign_written, are_digits-all, are_digits-some, all-are_digits, digits_no_sign, begins_sign}
 
 -- ---- kinds of parts
 
@@ -126,3 +126,41 @@ some_kind false h = cc
 
 pub none-kind_of : (word : List ℕ) → kind_of word ≡ None → (n : Numeral) → HasParts word n → ⊥
 none-kind_of word h n p = some_kind (is_real n) (sym (kind_of-parts word n p) ∙ h)
+
+-- ---- what the parts of a word tell
+
+pub numeral_has_parts : (word : List ℕ) → is_numeral word ≡ true → (n : Numeral) × HasParts word n
+numeral_has_parts word h = (parts_of word, has_parts (kind_of word) refl h)
+  where
+    has_parts : (kind : Option NumeralKind) → kind_of word ≡ kind → is_some kind ≡ true → HasParts word (parts_of word)
+    has_parts None e k = cc
+    has_parts (Some kind) e k = parts-kind_of word kind e
+
+pub parts_of_numeral : (word : List ℕ) (n : Numeral) → HasParts word n → is_numeral word ≡ true
+parts_of_numeral word n p = ap is_some (kind_of-parts word n p) ∙ some_of_either (is_real n)
+  where
+    some_of_either : (real : Bool) → is_some (cond real (Some Real) (Some Whole)) ≡ true
+    some_of_either true = refl
+    some_of_either false = refl
+
+pub one_way_of_parts : (word : List ℕ) (m n : Numeral) → HasParts word m → HasParts word n → m ≡ n
+one_way_of_parts word m n p q = sym (parts_of-is word m p) ∙ parts_of-is word n q
+
+-- ---- the value of a whole numeral
+
+or_false : (a b : Bool) → (a || b) ≡ false → (a ≡ false) × (b ≡ false)
+or_false true b h = cc
+or_false false b h = (refl, h)
+
+signed_value : (sign : Sign) (digits : List ℕ) → begins_sign digits ≡ false →
+    value_of_whole (sign_text sign ++ digits) ≡ with_sign sign (digits_value digits)
+signed_value no_sign [] h = refl
+signed_value no_sign (b ∷ digits) h =
+    let e = or_false (b == 43) (b == 45) h in
+    rw (e.0, e.1) refl
+signed_value plus digits h = refl
+signed_value minus digits h = refl
+
+pub value_by_parts : (word : List ℕ) (n : Numeral) → HasParts word n → HasNoPoint n → value_of_whole word ≡ whole_value n
+value_by_parts word n p k =
+    rw (p.written, whole_text n k) (signed_value n.sign n.whole (digits_no_sign n.whole p.numeral.whole))
