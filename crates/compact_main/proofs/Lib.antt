@@ -1,1 +1,5 @@
 pub mod PairLookups
+pub mod Words
+pub mod PlainLists
+pub mod ChainTrees
+pub mod PlacedRows

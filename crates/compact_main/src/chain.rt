@@ -1,7 +1,8 @@
 ghost use Rattle.std.specs.Prelude.{◌≡◌, ◌≤◌, ◌<◌, ℕ, true, length, Some, ◌↔◌, IsTrue, IfSome, IfNone, IsSomeAnd, pos, suc, ◌+◌};
 ghost use Rattle.std.specs.List.{list_all};
 ghost use Rattle.compact_main.specs.Chains as chains;
-ghost use Rattle.compact_main.specs.Chains.{IsEastOf, AreNumbered, AreRow, AreJoined};
+ghost use Rattle.compact_main.specs.Chains.{IsEastOf, AreNumbered, AreRow, AreJoined, IsChain, IsChainTree};
+ghost use Rattle.gml_text.specs.declared.tree.Tree.{out-Tree};
 ghost use Rattle.std.specs.Option.{option_copied};
 ghost use Rattle.gml_text.specs.Trees.{is_plain};
 ghost use Rattle.compact_main.specs.Plain.{is_plain_value, is_plain_pair};
@@ -13,6 +14,9 @@ use gml_text::tree::{Pair, Tree, Value};
 
 /// The greatest magnitude of a coordinate that is read.
 pub const MOST_MAGNITUDE: i64 = 10_000_000_000;
+
+/// The most nodes that a drawing has.
+pub const MOST_NODES: usize = 1000;
 
 /// A node of a chain: its id and its place, as they are written.
 #[derive(Clone, Copy, Debug, PartialEq, Eq)]
@@ -170,4 +174,49 @@ fn are_joined(pairs: &[Pair], nodes: usize) -> bool
         }
     }
     true
+}
+
+/// The pairs of the one graph, where the tree is just that.
+fn graph_in(tree: &Tree) -> Option<&Items<Pair>>
+    ensures pairs { option_copied result ≡ chains.graph_in (out-Tree tree.now).pairs }
+    ensures plain { is_plain tree.now ≡ true → IfSome result (λ pairs. list_all is_plain_pair pairs.now ≡ true) }
+{
+    match tree.pairs.as_slice() {
+        [graph] => match value_under(b"graph", graph)? {
+            Value::Inner(list) => Some(&list.pairs),
+            _ => None,
+        },
+        _ => None,
+    }
+}
+
+/// Whether the pairs are a chain of so many nodes.
+fn is_chain(pairs: &[Pair], nodes: usize) -> bool
+    requires plain { list_all is_plain_pair pairs.now ≡ true }
+    requires some { 0 < nodes }
+    requires whole { length pairs.now + 1 ≡ nodes + nodes }
+    ensures { IsTrue result ↔ IsChain pairs.now nodes }
+{
+    nodes <= MOST_NODES
+        && are_numbered(pairs, nodes)
+        && are_row(pairs, nodes)
+        && are_joined(pairs, nodes)
+}
+
+/// How many nodes the tree's chain has; `None` where the tree is no chain.
+pub fn chain_length(tree: &Tree) -> Option<usize>
+    requires { is_plain tree.now ≡ true }
+    ensures some { IfSome result (λ nodes. IsChainTree tree.now nodes) }
+    ensures none { IfNone result ((nodes : ℕ) → IsChainTree tree.now nodes → ⊥) }
+{
+    let pairs = graph_in(tree)?.as_slice();
+    if pairs.len() % 2 == 0 {
+        return None;
+    }
+    let nodes = pairs.len() / 2 + 1;
+    if is_chain(pairs, nodes) {
+        Some(nodes)
+    } else {
+        None
+    }
 }

@@ -3,5 +3,7 @@
 
 mod chain;
 mod command;
+mod run;
+mod status;
 
 fn main() {}
