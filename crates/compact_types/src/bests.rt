@@ -7,5 +7,4 @@ ghost use Rattle.compact_types.specs.Bests.{Objective, IsBest};
 pub fn at_most_one_best()
     ensures { (objective : Objective) (shape : Shape) (p q : Places) →
         IsBest objective shape p → IsBest objective shape q → p ≡ q }
-{
-}
+{}
