@@ -3,3 +3,4 @@ pub mod Words
 pub mod PlainLists
 pub mod ChainTrees
 pub mod PlacedRows
+pub mod ShortestRow
