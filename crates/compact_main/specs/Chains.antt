@@ -48,15 +48,15 @@ both_of first second (Inner tree) = both_in first second (out-Tree tree).pairs
 abbrev pub numbers_of : List ℕ → List ℕ → Value → Option (ℤ × ℤ)
 numbers_of first second value =
     option_and_then (λ both. option_and_then (λ a. option_and_then (λ b. Some (a, b)) (number_of both.1)) (number_of both.0))
-        (both_of first second value)
+    (both_of first second value)
 
 -- a node: a list of just an id and graphics, which are a list of just an x and a y
 abbrev pub node_of : Pair → Option Node
 node_of pair =
     option_and_then (λ value. option_and_then (λ parts. option_and_then (λ id. option_and_then
-        (λ xy. Some (record { id = id; x = xy.0; y = xy.1 }))
-        (numbers_of (codes "x") (codes "y") parts.1)) (number_of parts.0))
-        (both_of (codes "id") (codes "graphics") value)) (value_under (codes "node") pair)
+    (λ xy. Some (record { id = id; x = xy.0; y = xy.1 }))
+    (numbers_of (codes "x") (codes "y") parts.1)) (number_of parts.0))
+    (both_of (codes "id") (codes "graphics") value)) (value_under (codes "node") pair)
 
 -- the ids of the ends of an edge: a list of just a source and a target
 abbrev pub ends_of : Pair → Option (ℤ × ℤ)

@@ -12,9 +12,9 @@ ghost use Rattle.compact_main.specs.Runs.{AreRight, IsDone, IsBrokenOff, IsRefus
 use crate::chain::chain_length;
 use crate::command::{Command, command_of};
 use crate::status::{Status, Why};
-use compact_types::refusal::{NoMemory, Refusal};
 use compact_types::items::Items;
 use compact_types::places::Point;
+use compact_types::refusal::{NoMemory, Refusal};
 use gml_print::number::whole_text;
 use gml_print::place::put_value;
 use gml_print::print::print_tree;
@@ -133,3 +133,6 @@ pub fn run_alone<S: Source, K: Sink, N: Sink>(
         Err(Refusal::NoMemory) => Status::NoMemory,
     }
 }
+
+#[cfg(test)]
+mod tests;
