@@ -1,16 +1,36 @@
-ghost use Rattle.std.specs.Prelude.{◌≡◌, ◌↔◌, ℕ, List, true, if◌then◌else◌, nat_lt, is_some, FitsSigned, ◌+◌, ◌<◌, ◌≤◌, ◌^◌, length};
+ghost use Rattle.std.specs.Prelude.{◌≡◌, ◌↔◌, ℕ, ℤ, unsigned_abs, List, true, if◌then◌else◌, nat_lt, is_some, FitsSigned, ◌+◌, ◌<◌, ◌≤◌, ◌^◌, length};
 ghost use Rattle.std.specs.Int.{w64};
 ghost use Rattle.std.specs.List.{list_all, prefix_len};
 ghost use Rattle.std.specs.Option.{SomeIff};
 ghost use Rattle.gml_text.specs.Bytes.{is_digit};
 ghost use Rattle.gml_text.specs.NumeralKinds.{HasTheParts, is_numeral, kind_of, is_exponent, exponent_of, is_minus, sign_of, after_sign, front_digits, after_digits, fraction_of, after_fraction};
-ghost use Rattle.gml_text.specs.Numerals.{is_whole_numeral, value_of_whole, digits_value, are_digits, fraction_digits, Numeral, HasParts, HasNoPoint, whole_value};
+ghost use Rattle.gml_text.specs.Numerals.{is_whole_numeral, value_of_whole, digits_value, are_digits, fraction_digits, Numeral, HasParts, HasNoPoint, whole_value, IsThousandths, most_thousandths};
 
 /// Whether a numeral is written without a point and an exponent, or with one of them.
 #[derive(Clone, Copy, Debug)]
 pub enum NumeralKind {
     Whole,
     Real,
+}
+
+/// Why a numeral is no number of thousandths.
+#[derive(Clone, Copy, Debug)]
+pub enum NumberFault {
+    /// A thousand times its value is not whole.
+    TooFine,
+    /// It is, and the value's magnitude is above 10,000,000,000.
+    OutOfRange,
+}
+
+/// A thousand times the value of a numeral.
+pub fn thousandths(lexeme: &[u8]) -> Result<i64, NumberFault>
+    requires { is_numeral lexeme.now ≡ true }
+    ensures value { (n : Numeral) → HasParts lexeme.now n → (t : ℤ) → (result ≡ Ok t) ↔ (IsThousandths n t × (unsigned_abs t ≤ most_thousandths)) }
+    ensures too_fine { (n : Numeral) → HasParts lexeme.now n → (result ≡ Err NumberFault.TooFine) ↔ ((t : ℤ) → IsThousandths n t → ⊥) }
+    ensures out_of_range { (n : Numeral) → HasParts lexeme.now n → (result ≡ Err NumberFault.OutOfRange) ↔ ((t : ℤ) × IsThousandths n t × (most_thousandths < unsigned_abs t)) }
+{
+    let _ = lexeme;
+    Err(NumberFault::TooFine)
 }
 
 /// The value of a whole numeral; `None` exactly where it is outside `i64`.
