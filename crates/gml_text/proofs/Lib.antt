@@ -1,4 +1,5 @@
 pub mod Digits
+pub mod EndZeros
 pub mod NumeralLaws
 pub mod NumeralParts
 pub mod PartLemmas
