@@ -1,5 +1,7 @@
 -- A number of thousandths by the digits of a numeral and by the powers of ten above and below them.
-use Rattle.std.specs.Prelude.{◌≡◌, ℕ, ◌+◌, ◌*◌, ◌^◌, ◌<◌, ◌≤◌, Bool, true, false, List, [], ◌∷◌, ◌==◌, Option, None, Some, Result, Ok, Err}
+use Rattle.std.specs.Prelude.{◌≡◌, ℕ, ◌+◌, ◌*◌, ◌^◌, ◌<◌, ◌≤◌, ◌-◌, ◌%◌, ◌≢◌, ◌++◌, length, Bool, true, false, List, [], ◌∷◌, ◌==◌, Option, None, Some, Result, Ok, Err}
+use Rattle.std.specs.List.{list_all}
+use Rattle.gml_text.specs.Bytes.{is_digit}
 use Rattle.gml_text.specs.declared.number.NumberFault.{NumberFault}
 use Rattle.gml_text.specs.declared.number.NumberFault.TheVariants.{TooFine, OutOfRange}
 use Rattle.gml_text.specs.Numerals.{Sign, no_sign, plus, minus, Exponent, digits_value, most_thousandths}
@@ -41,3 +43,13 @@ abbrev pub IsRaisedOrFault : (number above below : ℕ) → Result ℕ NumberFau
 IsRaisedOrFault number above below (Ok t) = IsRaised number above below t × (t ≤ most_thousandths)
 IsRaisedOrFault number above below (Err TooFine) = (t : ℕ) → IsRaised number above below t → ⊥
 IsRaisedOrFault number above below (Err OutOfRange) = (t : ℕ) × IsRaised number above below t × (most_thousandths < t)
+
+-- these are left of the digits without the zeros at their end
+pub record IsKept (whole fraction kept_whole kept_fraction : List ℕ) : Type 0 where
+  pub whole_within : length kept_whole ≤ length whole
+  pub fraction_within : length kept_fraction ≤ length fraction
+  pub whole_digits : list_all is_digit kept_whole ≡ true
+  pub fraction_digits : list_all is_digit kept_fraction ≡ true
+  pub number : digits_value (whole ++ fraction) ≡
+      digits_value (kept_whole ++ kept_fraction) * 10 ^ ((length whole - length kept_whole) + (length fraction - length kept_fraction))
+  pub last : 0 < length kept_whole + length kept_fraction → digits_value (kept_whole ++ kept_fraction) % 10 ≢ 0

@@ -8,6 +8,7 @@ ghost use Rattle.gml_text.specs.Numerals.{is_whole_numeral, value_of_whole, digi
 
 mod digits;
 mod parts;
+mod scale;
 
 use digits::magnitude;
 use parts::{have_digit, is_exponent, parts_of};
