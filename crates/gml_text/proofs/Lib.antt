@@ -3,3 +3,4 @@ pub mod EndZeros
 pub mod NumeralLaws
 pub mod NumeralParts
 pub mod PartLemmas
+pub mod Scaling

@@ -39,7 +39,6 @@ pub(crate) fn thousandths_of(whole: &[u8], fraction: &[u8], exponent: &[u8]) -> 
 
 /// The digits without the zeros at their end, so that only the last zeros before the point are left out where there
 /// are no others after it.
-#[tactic(auto, using(crate::proofs::EndZeros::kept_both, crate::proofs::EndZeros::kept_whole))]
 fn kept_digits<'a>(whole: &'a [u8], fraction: &'a [u8]) -> (&'a [u8], &'a [u8])
     requires whole { list_all is_digit whole.now ≡ true }
     requires fraction { list_all is_digit fraction.now ≡ true }
