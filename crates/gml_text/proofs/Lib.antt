@@ -3,4 +3,5 @@ pub mod EndZeros
 pub mod NumeralLaws
 pub mod NumeralParts
 pub mod PartLemmas
+pub mod ScaleLemmas
 pub mod Scaling
