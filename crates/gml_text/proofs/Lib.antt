@@ -5,3 +5,4 @@ pub mod NumeralParts
 pub mod PartLemmas
 pub mod ScaleLemmas
 pub mod Scaling
+pub mod SignedThousandths

@@ -12,7 +12,7 @@ use Rattle.gml_text.specs.Scaling.{IsRaised, IsRaisedOrFault}
 pub power_above_zero : (k : ℕ) → 0 < 10 ^ k
 power_above_zero k = one-le-pow k 10 (omega arith)
 
-cancel : (x y k : ℕ) → x * 10 ^ k ≡ y * 10 ^ k → x ≡ y
+pub cancel : (x y k : ℕ) → x * 10 ^ k ≡ y * 10 ^ k → x ≡ y
 cancel x y k e =
     sym (mul-div_cancel x (power_above_zero k)) ∙ ap (λ z. z / 10 ^ k) e ∙ mul-div_cancel y (power_above_zero k)
 

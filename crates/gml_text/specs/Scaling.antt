@@ -1,5 +1,5 @@
 -- A number of thousandths by the digits of a numeral and by the powers of ten above and below them.
-use Rattle.std.specs.Prelude.{◌≡◌, ℕ, ◌+◌, ◌*◌, ◌^◌, ◌<◌, ◌≤◌, ◌-◌, ◌%◌, ◌≢◌, ◌++◌, length, Bool, true, false, List, [], ◌∷◌, ◌==◌, Option, None, Some, Result, Ok, Err}
+use Rattle.std.specs.Prelude.{◌≡◌, ℤ, pos, ◌-ℤ◌, ℕ, ◌+◌, ◌*◌, ◌^◌, ◌<◌, ◌≤◌, ◌-◌, ◌%◌, ◌≢◌, ◌++◌, length, Bool, true, false, List, [], ◌∷◌, ◌==◌, Option, None, Some, Result, Ok, Err}
 use Rattle.std.specs.List.{list_all}
 use Rattle.gml_text.specs.Bytes.{is_digit}
 use Rattle.gml_text.specs.declared.number.NumberFault.{NumberFault}
@@ -53,3 +53,12 @@ pub record IsKept (whole fraction kept_whole kept_fraction : List ℕ) : Type 0 
   pub number : digits_value (whole ++ fraction) ≡
       digits_value (kept_whole ++ kept_fraction) * 10 ^ ((length whole - length kept_whole) + (length fraction - length kept_fraction))
   pub last : 0 < length kept_whole + length kept_fraction → digits_value (kept_whole ++ kept_fraction) % 10 ≢ 0
+
+-- the magnitude with a sign
+abbrev pub signed : Bool → ℕ → ℤ
+signed true n = pos 0 -ℤ pos n
+signed false n = pos n
+
+abbrev pub signed_answer : Bool → Result ℕ NumberFault → Result ℤ NumberFault
+signed_answer is_negative (Ok n) = Ok (signed is_negative n)
+signed_answer is_negative (Err fault) = Err fault
