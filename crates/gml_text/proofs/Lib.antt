@@ -6,3 +6,4 @@ pub mod PartLemmas
 pub mod ScaleLemmas
 pub mod Scaling
 pub mod SignedThousandths
+pub mod ThousandthsLemmas

@@ -1,10 +1,11 @@
-ghost use Rattle.std.specs.Prelude.{◌≡◌, ◌↔◌, ℕ, ℤ, unsigned_abs, List, true, if◌then◌else◌, nat_lt, is_some, FitsSigned, ◌+◌, ◌<◌, ◌≤◌, ◌^◌, length};
+ghost use Rattle.std.specs.Prelude.{◌≡◌, ◌↔◌, ℕ, ℤ, unsigned_abs, List, true, if◌then◌else◌, nat_lt, is_some, IfOk, FitsSigned, ◌+◌, ◌<◌, ◌≤◌, ◌^◌, length};
 ghost use Rattle.std.specs.Int.{w64};
 ghost use Rattle.std.specs.List.{list_all, prefix_len};
 ghost use Rattle.std.specs.Option.{SomeIff};
 ghost use Rattle.gml_text.specs.Bytes.{is_digit};
 ghost use Rattle.gml_text.specs.NumeralKinds.{HasTheParts, is_numeral, kind_of, is_exponent, exponent_of, is_minus, sign_of, after_sign, front_digits, after_digits, fraction_of, after_fraction};
 ghost use Rattle.gml_text.specs.Numerals.{is_whole_numeral, value_of_whole, digits_value, are_digits, fraction_digits, Numeral, HasParts, HasNoPoint, whole_value, IsThousandths, most_thousandths};
+ghost use Rattle.gml_text.specs.Scaling.{signed_answer};
 
 mod digits;
 mod parts;
@@ -12,6 +13,7 @@ mod scale;
 
 use digits::magnitude;
 use parts::{have_digit, is_exponent, parts_of};
+use scale::thousandths_of;
 
 /// Whether a numeral is written without a point and an exponent, or with one of them.
 #[derive(Clone, Copy, Debug)]
@@ -36,8 +38,16 @@ pub fn thousandths(lexeme: &[u8]) -> Result<i64, NumberFault>
     ensures too_fine { (n : Numeral) → HasParts lexeme.now n → (result ≡ Err NumberFault.TooFine) ↔ ((t : ℤ) → IsThousandths n t → ⊥) }
     ensures out_of_range { (n : Numeral) → HasParts lexeme.now n → (result ≡ Err NumberFault.OutOfRange) ↔ ((t : ℤ) × IsThousandths n t × (most_thousandths < unsigned_abs t)) }
 {
-    let _ = lexeme;
-    Err(NumberFault::TooFine)
+    let parts = parts_of(lexeme);
+    with_sign(parts.minus, thousandths_of(parts.whole, parts.fraction, parts.exponent))
+}
+
+fn with_sign(minus: bool, magnitude: Result<u64, NumberFault>) -> Result<i64, NumberFault>
+    requires { IfOk magnitude (λ n. n ≤ most_thousandths) }
+    ensures { result ≡ signed_answer minus magnitude }
+{
+    let magnitude = magnitude? as i64;
+    Ok(if minus { -magnitude } else { magnitude })
 }
 
 /// The value of a whole numeral; `None` exactly where it is outside `i64`.
