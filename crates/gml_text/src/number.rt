@@ -16,14 +16,14 @@ use parts::{have_digit, is_exponent, parts_of};
 use scale::thousandths_of;
 
 /// Whether a numeral is written without a point and an exponent, or with one of them.
-#[derive(Clone, Copy, Debug)]
+#[derive(Clone, Copy, Debug, PartialEq, Eq)]
 pub enum NumeralKind {
     Whole,
     Real,
 }
 
 /// Why a numeral is no number of thousandths.
-#[derive(Clone, Copy, Debug)]
+#[derive(Clone, Copy, Debug, PartialEq, Eq)]
 pub enum NumberFault {
     /// A thousand times its value is not whole.
     TooFine,
@@ -94,4 +94,74 @@ pub fn numerals_have_parts()
     ensures numeral { (word : List ℕ) → (is_numeral word ≡ true) ↔ ((n : Numeral) × HasParts word n) }
     ensures only { (word : List ℕ) (m n : Numeral) → HasParts word m → HasParts word n → m ≡ n }
 {
+}
+
+#[cfg(test)]
+mod tests {
+    use super::*;
+
+    fn thousandths_of_word(word: &str) -> Option<Result<i64, NumberFault>> {
+        numeral_kind(word.as_bytes())?;
+        Some(thousandths(word.as_bytes()))
+    }
+
+    #[test]
+    fn gives_thousandths(rt: HostRuntime) {
+        let too_fine = Some(Err(NumberFault::TooFine));
+        let out_of_range = Some(Err(NumberFault::OutOfRange));
+        for (word, want) in [
+            ("1.5E2", Some(Ok(150_000))),
+            ("+7.250", Some(Ok(7_250))),
+            ("-.5", Some(Ok(-500))),
+            ("5.", Some(Ok(5_000))),
+            ("-0", Some(Ok(0))),
+            ("0e999999", Some(Ok(0))),
+            ("0.00e-99999999999999999999", Some(Ok(0))),
+            ("0.1234", too_fine),
+            ("5e-4", too_fine),
+            ("5000e-6", Some(Ok(5))),
+            ("1e-99999999999999999999", too_fine),
+            ("10000000000.0001", too_fine),
+            ("10000000000", Some(Ok(10_000_000_000_000))),
+            ("-100000000000000000000e-10", Some(Ok(-10_000_000_000_000))),
+            ("10000000000.001", out_of_range),
+            ("-10000000000.001", out_of_range),
+            ("1e400", out_of_range),
+            ("1e99999999999999999999", out_of_range),
+            ("99999999999999999999999.", out_of_range),
+            (".", None),
+            ("-", None),
+            ("1e", None),
+            ("1.2.3", None),
+            ("+-1", None),
+        ] {
+            assert_eq!(rt; thousandths_of_word(word), want, "at {word}");
+        }
+    }
+
+    #[tactic(auto, using(crate::proofs::NumeralLaws::whole_of_kind))]
+    fn whole_of_word(word: &str) -> Option<i64> {
+        match numeral_kind(word.as_bytes()) {
+            Some(NumeralKind::Whole) => whole(word.as_bytes()),
+            _ => None,
+        }
+    }
+
+    #[test]
+    fn gives_whole_numbers(rt: HostRuntime) {
+        for (word, want) in [
+            ("0", Some(0)),
+            ("+0042", Some(42)),
+            ("-7", Some(-7)),
+            ("9223372036854775807", Some(i64::MAX)),
+            ("9223372036854775808", None),
+            ("-9223372036854775808", Some(i64::MIN)),
+            ("-9223372036854775809", None),
+            ("00000000000000000000000000000000001", Some(1)),
+            ("99999999999999999999", None),
+            ("1.", None),
+        ] {
+            assert_eq!(rt; whole_of_word(word), want, "at {word}");
+        }
+    }
 }
