@@ -66,8 +66,8 @@ whole_digits : (word : List ℕ) → is_whole_numeral word ≡ true → are_digi
 whole_digits [] h = h
 whole_digits (b ∷ bytes) h =
     elim (is_sign b) as (λ s. cond s (are_digits bytes) (are_digits (b ∷ bytes)) ≡ true → are_digits (cond s bytes (b ∷ bytes)) ≡ true) [
-      true ↦ λ e. e
-    | false ↦ λ e. e
+      | true ↦ λ e. e
+      | false ↦ λ e. e
     ] h
 
 -- a whole numeral has parts, neither a point nor an exponent among them

@@ -7,15 +7,19 @@ ghost use Rattle.gml_text.specs.NumeralKinds.{is_exponent, exponent_of};
 ghost use Rattle.gml_text.specs.Numerals.{digits_value, most_thousandths};
 ghost use Rattle.gml_text.specs.Scaling.{tens_above, tens_below, IsRaisedOrFault, IsKept};
 
+use super::NumberFault;
 use super::digits::{magnitude, magnitude_of, without_end_zeros};
 use super::parts::{after_sign, begins_minus};
-use super::NumberFault;
 
 /// The greatest magnitude in thousandths, that of 10,000,000,000.
 const MOST: u64 = 10_000_000_000_000;
 
 /// The number that the digits write, times ten to the power three and to that of the exponent.
-pub(crate) fn thousandths_of(whole: &[u8], fraction: &[u8], exponent: &[u8]) -> Result<u64, NumberFault>
+pub(crate) fn thousandths_of(
+    whole: &[u8],
+    fraction: &[u8],
+    exponent: &[u8],
+) -> Result<u64, NumberFault>
     requires whole { list_all is_digit whole.now ≡ true }
     requires fraction { list_all is_digit fraction.now ≡ true }
     requires exponent { is_exponent (exponent_of exponent.now) ≡ true }
@@ -25,9 +29,12 @@ pub(crate) fn thousandths_of(whole: &[u8], fraction: &[u8], exponent: &[u8]) -> 
     if kept_whole.is_empty() && kept_fraction.is_empty() {
         return Ok(0);
     }
-    let zeros = (whole.len() - kept_whole.len()) as u128 + (fraction.len() - kept_fraction.len()) as u128;
+    let zeros = (whole.len() - kept_whole.len()) as u128
+        + (fraction.len() - kept_fraction.len()) as u128;
     let (above, below) = exponent_tens(exponent);
-    let tens = (zeros + 3 + u128::from(above)).checked_sub(fraction.len() as u128 + u128::from(below));
+    let tens = (zeros + 3 + u128::from(above)).checked_sub(
+        fraction.len() as u128 + u128::from(below),
+    );
     let Some(tens) = tens else {
         return Err(NumberFault::TooFine);
     };
@@ -61,7 +68,11 @@ fn exponent_tens(exponent: &[u8]) -> (u64, u64)
     match exponent {
         [_, rest @ ..] => {
             let size = magnitude(0, after_sign(rest)).unwrap_or(u64::MAX);
-            if begins_minus(rest) { (0, size) } else { (size, 0) }
+            if begins_minus(rest) {
+                (0, size)
+            } else {
+                (size, 0)
+            }
         }
         [] => (0, 0),
     }
