@@ -39,8 +39,8 @@ pub all_digits : (text : List ℕ) → list_all is_digit (front_digits text) ≡
 all_digits [] = refl
 all_digits (b ∷ text) =
     elim (is_digit b) as (λ d. is_digit b ≡ d → list_all is_digit (take (cond d (1 + prefix_len is_digit text) 0) (b ∷ text)) ≡ true) [
-      true ↦ λ e. rw (add_comm 1 (prefix_len is_digit text), add-one) (grind (arith, all_digits text, e))
-    | false ↦ λ e. refl
+      | true ↦ λ e. rw (add_comm 1 (prefix_len is_digit text), add-one) (grind (arith, all_digits text, e))
+      | false ↦ λ e. refl
     ] refl
 
 -- ---- and no other parts do
@@ -162,7 +162,7 @@ unfolding parts_of
 parts_are n h =
     let after : List ℕ = fraction_text n.fraction ++ exponent_text n.exponent in
     let unsigned : begins_sign (n.whole ++ after) ≡ false =
-        body_no_sign n.whole n.fraction (exponent_text n.exponent) h.whole h.some_digit in
+    body_no_sign n.whole n.fraction (exponent_text n.exponent) h.whole h.some_digit in
     let s : sign_of (numeral_text n) ≡ n.sign = sign_read n.sign (n.whole ++ after) unsigned in
     let t : after_sign (numeral_text n) ≡ n.whole ++ after = after_sign_read n.sign (n.whole ++ after) unsigned in
     let d : begins_digit after ≡ false = fraction_no_digit n.fraction n.exponent h.exponent in
@@ -215,8 +215,8 @@ fraction_all_digits : (text : List ℕ) → list_all is_digit (fraction_digits (
 fraction_all_digits [] = refl
 fraction_all_digits (b ∷ text) =
     elim (b == 46) as (λ d. list_all is_digit (fraction_digits (cond d (Some (front_digits text)) None)) ≡ true) [
-      true ↦ all_digits text
-    | false ↦ refl
+      | true ↦ all_digits text
+      | false ↦ refl
     ]
 
 above_zero : (n : ℕ) → nat_lt 0 n ≡ true → 0 < n
