@@ -1,4 +1,4 @@
-ghost use Rattle.std.specs.Prelude.{◌≡◌, not, ◌==◌};
+ghost use Rattle.std.specs.Prelude.{◌≡◌, ◌≤◌, length, not, ◌==◌};
 ghost use Rattle.std.specs.List.{prefix_len, list_all};
 ghost use Rattle.gml_text.specs.Bytes as spec;
 
@@ -35,21 +35,24 @@ pub(crate) fn is_key(word: &[u8]) -> bool
 
 /// How many bytes the longest word at the front has.
 pub(crate) fn word_length(text: &[u8]) -> usize
-    ensures { result ≡ prefix_len spec.is_word_byte text.now }
+    ensures value { result ≡ prefix_len spec.is_word_byte text.now }
+    ensures within { result ≤ length text.now }
 {
     text.iter().take_while(|byte| is_word_byte(**byte)).count()
 }
 
 /// How many bytes of white space stand at the front.
 pub(crate) fn space_length(text: &[u8]) -> usize
-    ensures { result ≡ prefix_len spec.is_space text.now }
+    ensures value { result ≡ prefix_len spec.is_space text.now }
+    ensures within { result ≤ length text.now }
 {
     text.iter().take_while(|byte| is_space(**byte)).count()
 }
 
 /// How many bytes stand before the first `stop`: all of them where there is none.
 pub(crate) fn length_before(text: &[u8], stop: u8) -> usize
-    ensures { result ≡ prefix_len (λ byte. not (byte == stop)) text.now }
+    ensures value { result ≡ prefix_len (λ byte. not (byte == stop)) text.now }
+    ensures within { result ≤ length text.now }
 {
     text.iter().take_while(|byte| **byte != stop).count()
 }
