@@ -1,3 +1,4 @@
 pub mod Digits
 pub mod NumeralLaws
 pub mod Keys
+pub mod Runs

@@ -135,11 +135,15 @@ finish_in (parent ∷ parents) pairs = Err (record { at = parent.at; kind = Open
 abbrev pub finish : State → Result Tree GmlFault
 finish s = finish_in s.parents s.pairs
 
+-- the answer after a step
+abbrev pub after_step : Step → (State → Result Tree GmlFault) → Result Tree GmlFault
+after_step (goes_on next) answer = answer next
+after_step (stops fault) answer = Err fault
+
 -- the steps up to the text's end or to a fault; the first bytes of the text, so many, are taken already
 abbrev pub run : ℕ → State → List ℕ → Result Tree GmlFault
 run skip s [] = finish s
-run zero s (b ∷ text) =
-    elim (step_of s (b ∷ text)) [ goes_on next ↦ run (next.at - suc s.at) next text | stops fault ↦ Err fault ]
+run zero s (b ∷ text) = after_step (step_of s (b ∷ text)) (λ next. run (next.at - suc s.at) next text)
 run (suc skip) s (b ∷ text) = run skip s text
 
 abbrev pub at_the_start : State
