@@ -69,13 +69,15 @@ close_in (parent ∷ parents) pairs at =
 abbrev pub close_list : State → Step
 close_list s = close_in s.parents s.pairs s.at
 
--- a string, whose first quote is the text's first byte
-abbrev pub read_string : State → List ℕ → ℕ → List ℕ → Step
-read_string s key at text =
-    let inside = drop 1 text in
-    let size = prefix_len (λ b. not (b == 34)) inside in
+-- the bytes after a quote, of which so many stand before the next quote
+abbrev pub read_inside : State → List ℕ → ℕ → List ℕ → ℕ → Step
+read_inside s key at inside size =
     if size == length inside then fault_at at OpenString
     else goes_on (with_pair s (record { key = key; value = Text (take size inside); at = at }) (at + size + 2))
+
+-- a string, whose first quote is the text's first byte
+abbrev pub read_string : State → List ℕ → ℕ → List ℕ → Step
+read_string s key at text = read_inside s key at (drop 1 text) (prefix_len (λ b. not (b == 34)) (drop 1 text))
 
 -- a `[`
 abbrev pub open_list : State → List ℕ → ℕ → Step
