@@ -5,3 +5,4 @@ pub mod Runs
 pub mod ByteFacts
 pub mod Fronts
 pub mod Words
+pub mod Tokens
