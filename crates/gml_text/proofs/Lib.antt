@@ -6,3 +6,4 @@ pub mod ByteFacts
 pub mod Fronts
 pub mod Words
 pub mod Tokens
+pub mod Complete

@@ -1,7 +1,7 @@
 -- What the reader's function does at each kind of front of a text.
 use Rattle.std.proofs.Common.{◌≡◌, ℕ, suc, ◌+◌, ◌<◌, ◌≤◌, Bool, true, false, cond, eqb, leb, List, [], ◌∷◌, ◌++◌, length, take, drop, min, not, Option, None, Some, refl, sym, ◌∙◌, ap, subst, arith, length-append, append_assoc}
 use Rattle.std.specs.List.{prefix_len, take_while, list_all}
-use Rattle.std.proofs.lemmas.List.{take_at, drop_at}
+use Rattle.std.proofs.lemmas.List.{take_at, drop_at, append-nil}
 use Rattle.std.proofs.lemmas.Bool.{cond-true, cond-false}
 use Rattle.std.proofs.lemmas.Bool.Decides.{nat_tests}
 use Rattle.gml_text.specs.declared.number.NumeralKind.{NumeralKind}
@@ -45,9 +45,23 @@ unfolding step_of
 step-other s b rest space comment close =
     cond-false (is_space b) _ _ space ∙ (cond-false (eqb b 35) _ _ comment ∙ cond-false (eqb b 93) _ _ close)
 
--- the bytes that a comment takes
-lacks-size : (words rest : List ℕ) → lacks 10 words ≡ true → prefix_len (λ b. not (eqb b 10)) (words ++ 10 ∷ rest) ≡ length words
-lacks-size words rest h = prefix_len-front (λ b. not (eqb b 10)) words (10 ∷ rest) h refl
+-- a comment with its line feed
+pub step-whole_comment : (s : State) (words rest : List ℕ) → lacks 10 words ≡ true →
+    step_of s (35 ∷ (words ++ 10 ∷ rest)) ≡ goes_on (moved s (s.at + (length words + 2)))
+step-whole_comment s words rest h =
+    let size : prefix_len (λ b. not (eqb b 10)) (35 ∷ (words ++ 10 ∷ rest)) ≡ suc (length words) =
+        prefix_len-front (λ b. not (eqb b 10)) (35 ∷ words) (10 ∷ rest) h refl in
+    let count : s.at + min (prefix_len (λ b. not (eqb b 10)) (35 ∷ (words ++ 10 ∷ rest)) + 1) (length (35 ∷ (words ++ 10 ∷ rest))) ≡ s.at + (length words + 2) =
+        omega (arith, size, length-append words (10 ∷ rest)) in
+    step-comment s (words ++ 10 ∷ rest) ∙ ap (λ at. goes_on (moved s at)) count
+
+-- a comment up to the text's end
+pub step-last_comment : (s : State) (words : List ℕ) → lacks 10 words ≡ true → step_of s (35 ∷ words) ≡ goes_on (moved s (s.at + suc (length words)))
+step-last_comment s words h =
+    let size : prefix_len (λ b. not (eqb b 10)) (35 ∷ words) ≡ suc (length words) =
+        ap (prefix_len (λ b. not (eqb b 10))) (sym (append-nil (35 ∷ words))) ∙ prefix_len-front (λ b. not (eqb b 10)) (35 ∷ words) [] h refl in
+    let count : s.at + min (prefix_len (λ b. not (eqb b 10)) (35 ∷ words) + 1) (length (35 ∷ words)) ≡ s.at + suc (length words) = omega (arith, size) in
+    step-comment s words ∙ ap (λ at. goes_on (moved s at)) count
 
 pub read_after-key : (s : State) (key gap text : List ℕ) → is_key key ≡ true → are_spaces gap ≡ true → begins is_space text ≡ false →
     read_after s key (gap ++ text) ≡ read_value s key (s.at + (length key + length gap)) text
