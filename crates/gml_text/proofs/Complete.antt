@@ -4,7 +4,7 @@ use Rattle.std.proofs.lemmas.List.{append-nil}
 use Rattle.gml_text.specs.declared.number.NumeralKind.{NumeralKind}
 use Rattle.gml_text.specs.declared.number.NumeralKind.TheVariants as kinds
 use Rattle.gml_text.specs.declared.reader.Parent.{Parent}
-use Rattle.gml_text.specs.declared.tree.Tree.{Tree, out-Tree, roll-Tree}
+use Rattle.gml_text.specs.declared.tree.Tree.{Tree, out-Tree, roll-Tree, roll-out-Tree}
 use Rattle.gml_text.specs.declared.tree.Pair.{Pair}
 use Rattle.gml_text.specs.declared.tree.Value.{Value}
 use Rattle.gml_text.specs.declared.tree.Value.TheVariants.{Whole, Real, Text, Inner}
@@ -185,7 +185,4 @@ answer_of-text (in_a_comment text pairs words h ends lack) =
 
 -- a text is read as the tree that it has
 pub answer_of-spelled : (text : List ℕ) (tree : Tree) → Spells text tree → answer_of text ≡ Ok tree
-answer_of-spelled text tree h = go (out-Tree tree).pairs h
-  where
-    go : (pairs : List Pair) → IsText text pairs → answer_of text ≡ Ok (roll-Tree (record { pairs = pairs }))
-    go pairs h = answer_of-text h
+answer_of-spelled text tree h = answer_of-text h ∙ ap Ok (roll-out-Tree tree)

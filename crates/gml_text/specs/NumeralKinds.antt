@@ -52,6 +52,19 @@ parts_after sign body = record {
 unfoldable pub parts_of : List ℕ → Numeral
 parts_of word = parts_after (sign_of word) (after_sign word)
 
+abbrev pub is_minus : Sign → Bool
+is_minus no_sign = false
+is_minus plus = false
+is_minus minus = true
+
+-- these are the parts of the word, the exponent still with its letter
+pub record HasTheParts (word : List ℕ) (is_negative : Bool) (whole : List ℕ) (has_point : Bool) (fraction exponent : List ℕ) : Type 0 where
+  pub negative : is_negative ≡ is_minus (parts_of word).sign
+  pub whole_part : whole ≡ (parts_of word).whole
+  pub point : has_point ≡ is_some (parts_of word).fraction
+  pub fraction_part : fraction ≡ fraction_digits (parts_of word).fraction
+  pub exponent_part : exponent_of exponent ≡ (parts_of word).exponent
+
 -- no exponent, or its letter and at least one digit
 abbrev pub is_exponent : Option Exponent → Bool
 is_exponent None = true
