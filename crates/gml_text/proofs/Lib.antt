@@ -9,3 +9,4 @@ pub mod PartLemmas
 pub mod Runs
 pub mod Tokens
 pub mod Words
+pub mod Opened
