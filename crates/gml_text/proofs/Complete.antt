@@ -48,19 +48,19 @@ step-value s key gap text rest offset next is_one spaces ends apart place value 
     ∙ (step-key s key gap (text ++ rest) is_one spaces ends apart
     ∙ (ap (λ at. read_value s key at (text ++ rest)) (sym place) ∙ value))
 
-begins-append : (p : ℕ → Bool) (text rest : List ℕ) (test : Bool) → begins p text ≡ test → 0 < length text → begins p (text ++ rest) ≡ test
+pub begins-append : (p : ℕ → Bool) (text rest : List ℕ) (test : Bool) → begins p text ≡ test → 0 < length text → begins p (text ++ rest) ≡ test
 begins-append p [] rest test e some = absurd (omega arith)
 begins-append p (b ∷ text) rest test e some = e
 
-begins_with_word-append : (text rest : List ℕ) → 0 < length text → begins_with_word (text ++ rest) ≡ begins_with_word text
+pub begins_with_word-append : (text rest : List ℕ) → 0 < length text → begins_with_word (text ++ rest) ≡ begins_with_word text
 begins_with_word-append [] rest some = absurd (omega arith)
 begins_with_word-append (b ∷ text) rest some = refl
 
-numeral-no_space : (word : List ℕ) → begins begins_numeral word ≡ true → begins is_space word ≡ false
+pub numeral-no_space : (word : List ℕ) → begins begins_numeral word ≡ true → begins is_space word ≡ false
 numeral-no_space [] h = refl
 numeral-no_space (b ∷ word) h = begins_numeral-no_space b h
 
-joins-word : (word rest : List ℕ) → IsNumeralWord word → Joins word rest → begins_with_word rest ≡ false
+pub joins-word : (word rest : List ℕ) → IsNumeralWord word → Joins word rest → begins_with_word rest ≡ false
 joins-word word rest numeral (inl e) =
     let h : ends_in_word word ≡ true = ends_in_word-word word (begins-some begins_numeral word numeral.first) numeral.all in absurd cc
 joins-word word rest numeral (inr e) = e

@@ -10,3 +10,4 @@ pub mod Runs
 pub mod Tokens
 pub mod Words
 pub mod Opened
+pub mod Sound
