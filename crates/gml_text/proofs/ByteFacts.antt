@@ -1,8 +1,7 @@
 -- Which classes of bytes exclude or contain one another.
-use Rattle.std.proofs.Common.{◌≡◌, ℕ, Bool, true, false, List, [], ◌∷◌, eqb, ◌&&◌, ◌||◌, not, refl, arith}
+use Rattle.std.proofs.Common.{◌≡◌, ℕ, true, false, eqb, arith}
 use Rattle.std.proofs.lemmas.Bool.Decides.{nat_tests}
-use Rattle.std.specs.List.{list_all}
-use Rattle.gml_text.specs.Bytes.{is_digit, is_letter, is_space, is_word_byte, begins_key, goes_on_key, begins_numeral, is_key}
+use Rattle.gml_text.specs.Bytes.{is_digit, is_space, is_word_byte, begins_key, goes_on_key, begins_numeral}
 
 pub begins_key-no_space : (b : ℕ) → begins_key b ≡ true → is_space b ≡ false
 begins_key-no_space b h = grind (arith, nat_tests)

@@ -1,21 +1,21 @@
 -- The reader's function reads what is spelled so.
-use Rattle.std.proofs.Common.{◌≡◌, ℕ, suc, ◌+◌, ◌<◌, ◌⊎◌, inl, inr, Bool, true, false, List, [], ◌∷◌, ◌++◌, length, Some, Ok, refl, sym, ◌∙◌, ap, subst, arith, length-append, append_assoc}
+use Rattle.std.proofs.Common.{◌≡◌, ℕ, suc, ◌+◌, ◌<◌, ◌⊎◌, inl, inr, Bool, true, false, List, [], ◌∷◌, ◌++◌, length, Some, Ok, refl, sym, ◌∙◌, ap, arith, length-append, append_assoc}
 use Rattle.std.proofs.lemmas.List.{append-nil}
 use Rattle.gml_text.specs.declared.number.NumeralKind.{NumeralKind}
 use Rattle.gml_text.specs.declared.number.NumeralKind.TheVariants as kinds
 use Rattle.gml_text.specs.declared.reader.Parent.{Parent}
-use Rattle.gml_text.specs.declared.tree.Tree.{Tree, out-Tree, roll-Tree, roll-out-Tree}
+use Rattle.gml_text.specs.declared.tree.Tree.{Tree, roll-Tree, roll-out-Tree}
 use Rattle.gml_text.specs.declared.tree.Pair.{Pair}
 use Rattle.gml_text.specs.declared.tree.Value.{Value}
-use Rattle.gml_text.specs.declared.tree.Value.TheVariants.{Whole, Real, Text, Inner}
-use Rattle.gml_text.specs.Bytes.{is_space, is_word_byte, is_key, are_spaces, lacks, begins_numeral, begins_with_word, ends_in_word}
+use Rattle.gml_text.specs.declared.tree.Value.TheVariants.{Text, Inner}
+use Rattle.gml_text.specs.Bytes.{is_space, is_key, are_spaces, begins_numeral, begins_with_word, ends_in_word}
 use Rattle.gml_text.specs.NumeralKinds.{kind_of}
 use Rattle.gml_text.specs.Texts.{most_depth, Pairs, OnePair, HasValue, no_more, a_space, a_comment, one_more, a_pair, a_whole_numeral, a_real_numeral, a_string, a_list, IsText, to_the_end, in_a_comment, Spells}
-use Rattle.gml_text.specs.Reading.{State, Step, goes_on, stops, step_of, run, finish, answer_of, at_the_start, moved, with_pair, read_value, numeral_value}
+use Rattle.gml_text.specs.Reading.{State, Step, goes_on, step_of, run, answer_of, at_the_start, moved, with_pair, read_value, numeral_value}
 use Rattle.gml_text.proofs.ByteFacts.{is_space-no_word, begins_numeral-no_space}
 use Rattle.gml_text.proofs.NumeralLaws.{kind_of-whole, kind_of-real}
 use Rattle.gml_text.proofs.Fronts.{begins}
-use Rattle.gml_text.proofs.Words.{is_key-some, IsNumeralWord, IsNumeralWord-whole, IsNumeralWord-real, ends_in_word-append, ends_in_word-word, begins-some}
+use Rattle.gml_text.proofs.Words.{IsNumeralWord, IsNumeralWord-whole, IsNumeralWord-real, ends_in_word-append, ends_in_word-word, begins-some}
 use Rattle.gml_text.proofs.Runs.{run-goes_on}
 use Rattle.gml_text.proofs.Tokens.{step-space, step-whole_comment, step-last_comment, step-close, step-key, value-string, value-numeral, value-list}
 
@@ -80,9 +80,9 @@ run-numeral s key gap word rest offset kind is_one spaces apart place kind_is nu
     let size : length (key ++ gap ++ word) ≡ length key + length gap + length word = simp length-append refl in
     run-goes_on s next (key ++ gap ++ word) rest (omega arith)
     (step-value s key gap word rest offset (goes_on next) is_one spaces
-        (begins-append is_space word rest false (numeral-no_space word numeral.first) some)
-        (λ begin. apart (sym (begins_with_word-append word rest some) ∙ begin)) place
-        (value-numeral s key offset word rest kind kind_is numeral.all numeral.first (joins-word word rest numeral joins)))
+    (begins-append is_space word rest false (numeral-no_space word numeral.first) some)
+    (λ begin. apart (sym (begins_with_word-append word rest some) ∙ begin)) place
+    (value-numeral s key offset word rest kind kind_is numeral.all numeral.first (joins-word word rest numeral joins)))
     (omega arith)
 
 pub HasValue-some : {depth offset : ℕ} {text : List ℕ} {value : Value} → HasValue depth offset text value → 0 < length text
@@ -112,12 +112,12 @@ mutual
       let same : (35 ∷ words ++ 10 ∷ []) ++ rest ≡ 35 ∷ (words ++ 10 ∷ rest) = simp append_assoc in
       let size : length (35 ∷ words ++ 10 ∷ []) ≡ length words + 2 = omega (arith, length-append words (10 ∷ [])) in
       let whole : length (text ++ 35 ∷ words ++ 10 ∷ []) ≡ length text + length words + 2 =
-          omega (arith, length-append (text ++ 35 ∷ words) (10 ∷ []), length-append text (35 ∷ words)) in
+      omega (arith, length-append (text ++ 35 ∷ words) (10 ∷ []), length-append text (35 ∷ words)) in
       ap (run 0 s) regrouped
       ∙ (run-pairs before s (35 ∷ (words ++ 10 ∷ rest)) deep place (inl ends)
       ∙ (ap (run 0 there) (sym same)
       ∙ (run-goes_on there (moved there (there.at + (length words + 2))) (35 ∷ words ++ 10 ∷ []) rest (omega arith)
-          (ap (step_of there) same ∙ step-whole_comment there words rest h) (omega arith)
+      (ap (step_of there) same ∙ step-whole_comment there words rest h) (omega arith)
       ∙ same_run s.parents (s.pairs ++ pairs) (s.pairs ++ pairs) (there.at + (length words + 2)) (offset + length (text ++ 35 ∷ words ++ 10 ∷ [])) rest refl (omega arith))))
   run-pairs (one_more depth offset text pairs piece pair before ends h) s rest deep place joins =
       let there : State = with_pairs s pairs (offset + length text) in
@@ -125,7 +125,7 @@ mutual
       ∙ (run-pairs before s (piece ++ rest) deep place (inl ends)
       ∙ (run-pair h there rest deep refl (joins-append text piece rest (OnePair-some h) joins)
       ∙ same_run s.parents (s.pairs ++ pairs ++ pair ∷ []) (s.pairs ++ (pairs ++ pair ∷ [])) (offset + length text + length piece) (offset + length (text ++ piece)) rest
-          (append_assoc s.pairs pairs (pair ∷ [])) (omega (arith, length-append text piece))))
+      (append_assoc s.pairs pairs (pair ∷ [])) (omega (arith, length-append text piece))))
 
   pub run-pair : {depth offset : ℕ} {piece : List ℕ} {pair : Pair} → OnePair depth offset piece pair → (s : State) (rest : List ℕ) →
       length s.parents ≡ depth → s.at ≡ offset → Joins piece rest → run 0 s (piece ++ rest) ≡ run 0 (with_pair s pair (offset + length piece)) rest
@@ -146,13 +146,13 @@ mutual
   run-value (a_string depth offset inside h) s key gap rest deep is_one spaces apart place joins =
       let next : State = with_pair s (record { key = key; value = Text inside; at = offset }) (offset + length (34 ∷ inside ++ 34 ∷ [])) in
       let whole : length (key ++ gap ++ (34 ∷ inside ++ 34 ∷ [])) ≡ length key + length gap + length (34 ∷ inside ++ 34 ∷ []) =
-          omega (arith, length-append (key ++ gap) (34 ∷ inside ++ 34 ∷ []), length-append key gap) in
+      omega (arith, length-append (key ++ gap) (34 ∷ inside ++ 34 ∷ []), length-append key gap) in
       let end : offset + length inside + 2 ≡ offset + length (34 ∷ inside ++ 34 ∷ []) = omega (arith, length-append inside (34 ∷ [])) in
       let same : (34 ∷ inside ++ 34 ∷ []) ++ rest ≡ 34 ∷ (inside ++ 34 ∷ rest) = simp append_assoc in
       run-goes_on s next (key ++ gap ++ (34 ∷ inside ++ 34 ∷ [])) rest (omega arith)
       (step-value s key gap (34 ∷ inside ++ 34 ∷ []) rest offset (goes_on next) is_one spaces refl (λ begin. absurd cc) place
-          (ap (read_value s key offset) same ∙ (value-string s key offset inside rest h
-          ∙ ap (λ at. goes_on (with_pair s (record { key = key; value = Text inside; at = offset }) at)) end)))
+      (ap (read_value s key offset) same ∙ (value-string s key offset inside rest h
+      ∙ ap (λ at. goes_on (with_pair s (record { key = key; value = Text inside; at = offset }) at)) end)))
       (omega arith)
   run-value (a_list depth offset inside pairs room h) s key gap rest deep is_one spaces apart place joins =
       let parent : Parent = record { before = s.pairs; key = key; at = offset } in
@@ -165,12 +165,12 @@ mutual
       let fits : length s.parents < most_depth = omega arith in
       ap (run 0 s) regrouped
       ∙ (run-goes_on s opened (key ++ gap ++ 91 ∷ []) (inside ++ 93 ∷ rest) (omega arith)
-          (step-value s key gap (91 ∷ []) (inside ++ 93 ∷ rest) offset (goes_on opened) is_one spaces refl (λ begin. absurd cc) place
-              (value-list s key offset (inside ++ 93 ∷ rest) fits)) (omega arith)
+      (step-value s key gap (91 ∷ []) (inside ++ 93 ∷ rest) offset (goes_on opened) is_one spaces refl (λ begin. absurd cc) place
+      (value-list s key offset (inside ++ 93 ∷ rest) fits)) (omega arith)
       ∙ (run-pairs h opened (93 ∷ rest) (omega arith) (omega arith) (inr refl)
       ∙ (run-goes_on done next (93 ∷ []) rest (omega arith) (step-close done rest) refl
       ∙ same_run s.parents (s.pairs ++ pair ∷ []) (s.pairs ++ pair ∷ []) (suc offset + length inside + 1) (offset + length (91 ∷ inside ++ 93 ∷ [])) rest refl
-          (omega (arith, length-append inside (93 ∷ []))))))
+      (omega (arith, length-append inside (93 ∷ []))))))
 
 pub answer_of-text : {text : List ℕ} {pairs : List Pair} → IsText text pairs → answer_of text ≡ Ok (roll-Tree (record { pairs = pairs }))
 answer_of-text (to_the_end text pairs h) =
@@ -181,7 +181,7 @@ answer_of-text (in_a_comment text pairs words h ends lack) =
     run-pairs h at_the_start rest refl refl (inl ends)
     ∙ (ap (run 0 there) (sym (append-nil rest))
     ∙ run-goes_on there (moved there (there.at + suc (length words))) rest [] (omega arith)
-        (ap (step_of there) (append-nil rest) ∙ step-last_comment there words lack) refl)
+    (ap (step_of there) (append-nil rest) ∙ step-last_comment there words lack) refl)
 
 -- a text is read as the tree that it has
 pub answer_of-spelled : (text : List ℕ) (tree : Tree) → Spells text tree → answer_of text ≡ Ok tree

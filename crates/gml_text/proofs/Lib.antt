@@ -11,3 +11,5 @@ pub mod Tokens
 pub mod Words
 pub mod Opened
 pub mod Sound
+pub mod Plains
+pub mod PlainTexts

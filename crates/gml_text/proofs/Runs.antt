@@ -1,13 +1,12 @@
 -- The reader's function, a step at a time.
-use Rattle.std.proofs.Common.{◌≡◌, ℕ, zero, suc, ◌+◌, ◌-◌, ◌<◌, ◌≤◌, List, [], ◌∷◌, ◌++◌, length, drop, Result, Ok, Err, refl, sym, ◌∙◌, ap, arith, length-drop}
+use Rattle.std.proofs.Common.{◌≡◌, ℕ, zero, suc, ◌+◌, ◌-◌, ◌<◌, List, [], ◌∷◌, ◌++◌, length, drop, Err, refl, sym, ◌∙◌, ap, arith, length-drop}
 use Rattle.std.proofs.lemmas.List.{drop_at, drop-drop}
 use Rattle.compact_types.specs.Refusals.{Gives}
 use Rattle.compact_types.specs.declared.refusal.Refusal.{Refusal}
 use Rattle.compact_types.specs.declared.refusal.Refusal.TheVariants.{Fault, NoMemory}
 use Rattle.gml_text.specs.declared.fault.GmlFault.{GmlFault}
 use Rattle.gml_text.specs.declared.tree.Tree.{Tree}
-use Rattle.gml_text.specs.declared.reader.Reader.{Reader}
-use Rattle.gml_text.specs.Reading.{State, Step, goes_on, stops, step_of, run, after_step, finish, IsStep, state_of, answer_of, at_the_start}
+use Rattle.gml_text.specs.Reading.{State, Step, goes_on, stops, step_of, run, after_step, IsStep, answer_of}
 
 -- bytes that are taken already are no more looked at
 pub run-skip : (skip : ℕ) (s : State) (text : List ℕ) → run skip s text ≡ run 0 s (drop skip text)

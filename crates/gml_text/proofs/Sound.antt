@@ -1,31 +1,30 @@
 -- What the reader's function reads is spelled so.
-use Rattle.std.proofs.Common.{◌≡◌, ℕ, zero, suc, ◌+◌, ◌-◌, ◌<◌, ◌≤◌, ◌⊎◌, inl, inr, Bool, true, false, cond, eqb, leb, not, List, [], ◌∷◌, ◌++◌, length, take, drop, Option, None, Some, Result, Ok, Err, refl, sym, ◌∙◌, ap, subst, arith, length-append, append_assoc}
-use Rattle.std.specs.List.{prefix_len, take_while, list_all, slice_get}
+use Rattle.std.proofs.Common.{◌≡◌, ℕ, zero, suc, ◌+◌, ◌<◌, ◌≤◌, ◌⊎◌, inl, inr, Bool, true, false, eqb, leb, not, List, [], ◌∷◌, ◌++◌, length, drop, Option, None, Some, Result, Ok, Err, refl, sym, ◌∙◌, ap, subst, arith, length-append, append_assoc}
+use Rattle.std.specs.List.{prefix_len, take_while, list_all}
 use Rattle.std.proofs.lemmas.List.{append-nil, take-append-drop, take_at}
-use Rattle.std.proofs.lemmas.List.Sums.{prefix_len-le-length}
 use Rattle.std.proofs.lemmas.List.Folds.{length-prefix_len}
-use Rattle.std.proofs.lemmas.Bool.{cond-true, cond-false, eqb-true, eqb-false, eq-eqb}
+use Rattle.std.proofs.lemmas.Bool.{cond-true, cond-false, eqb-true, eq-eqb}
 use Rattle.std.proofs.lemmas.Bool.Decides.{nat_tests}
 use Rattle.gml_text.specs.declared.fault.GmlFault.{GmlFault}
-use Rattle.gml_text.specs.declared.fault.GmlKind.TheVariants.{BadKey, BadValue, BadNumeral, OpenString, OpenList, StrayClose, TooDeep}
+use Rattle.gml_text.specs.declared.fault.GmlKind.TheVariants.{BadKey, BadValue, OpenString, TooDeep}
 use Rattle.gml_text.specs.declared.number.NumeralKind.{NumeralKind}
 use Rattle.gml_text.specs.declared.number.NumeralKind.TheVariants as kinds
 use Rattle.gml_text.specs.declared.reader.Parent.{Parent}
-use Rattle.gml_text.specs.declared.tree.Tree.{Tree, out-Tree, roll-Tree, out-roll-Tree}
+use Rattle.gml_text.specs.declared.tree.Tree.{Tree, out-roll-Tree}
 use Rattle.gml_text.specs.declared.tree.Pair.{Pair}
 use Rattle.gml_text.specs.declared.tree.Value.{Value}
-use Rattle.gml_text.specs.declared.tree.Value.TheVariants.{Whole, Real, Text, Inner}
-use Rattle.gml_text.specs.Bytes.{is_space, is_word_byte, is_key, are_spaces, lacks, begins_key, begins_numeral, begins_with_word, ends_in_word}
+use Rattle.gml_text.specs.declared.tree.Value.TheVariants.{Text}
+use Rattle.gml_text.specs.Bytes.{is_space, is_word_byte, is_key, are_spaces, lacks, begins_numeral, begins_with_word, ends_in_word}
 use Rattle.gml_text.specs.NumeralKinds.{kind_of}
-use Rattle.gml_text.specs.Texts.{most_depth, Pairs, HasValue, no_more, a_whole_numeral, a_real_numeral, a_string, IsText, to_the_end, in_a_comment, Spells}
-use Rattle.gml_text.specs.Reading.{State, Step, goes_on, stops, step_of, run, finish, finish_in, answer_of, at_the_start, moved, with_pair, after_comment, close_in, read_value, read_value_from, read_inside, read_string, read_numeral, read_numeral_of, numeral_value, open_list, read_after, read_pair}
-use Rattle.gml_text.proofs.NumeralLaws.{whole-kind_of, real-kind_of, none-kind_of}
+use Rattle.gml_text.specs.Texts.{most_depth, HasValue, no_more, a_whole_numeral, a_real_numeral, a_string, IsText, to_the_end, in_a_comment, Spells}
+use Rattle.gml_text.specs.Reading.{State, Step, goes_on, stops, step_of, run, finish, finish_in, answer_of, at_the_start, moved, with_pair, close_in, read_value, read_inside, read_string, read_numeral, read_numeral_of, numeral_value, open_list, read_after}
+use Rattle.gml_text.proofs.NumeralLaws.{whole-kind_of, real-kind_of}
 use Rattle.gml_text.proofs.ByteFacts.{is_space-no_word, begins_numeral-word}
 use Rattle.gml_text.proofs.Fronts.{begins, and-left, list_all-take_while, begins-drop_while, prefix_len-yes}
 use Rattle.gml_text.proofs.Words.{ends_in_word-append, begins-word, is_key-some}
 use Rattle.gml_text.proofs.Runs.{run-goes_on, run-stops}
 use Rattle.gml_text.proofs.Tokens.{step-space, step-other, step-close, step-whole_comment, step-last_comment, read_after-key, eqb-less}
-use Rattle.gml_text.proofs.Opened.{Opened, outside, within, Opened-at, Opened-depth, grow-space, grow-comment, grow-value, AfterClose, after_close, open_one}
+use Rattle.gml_text.proofs.Opened.{Opened, outside, within, Opened-depth, grow-space, grow-comment, grow-value, AfterClose, after_close, open_one}
 use Rattle.gml_text.proofs.Complete.{Joins, begins_with_word-append}
 
 abbrev pub IsFaultOf : List ℕ → GmlFault → Type 0
@@ -81,14 +80,14 @@ word_apart front (b ∷ word) rest joins all some = no_word_before front b (word
 right-space : (front : List ℕ) (b : ℕ) (text : List ℕ) (s : State) (depth : ℕ) → Opened depth front s.parents s.pairs → s.at ≡ length front →
     is_space b ≡ true → IsRight front (b ∷ text) (goes_on (moved s (s.at + 1)))
 right-space front b text s depth opened place space = inl (record {
-    taken = b ∷ [];
-    rest = text;
-    depth = depth;
-    split = refl;
-    some = omega arith;
-    place = omega (arith, length-append front (b ∷ []));
-    opened = grow-space opened b space;
-    joins = inl (ends_in_word-append front (b ∷ []) (omega arith) ∙ is_space-no_word b space);
+  taken = b ∷ [];
+  rest = text;
+  depth = depth;
+  split = refl;
+  some = omega arith;
+  place = omega (arith, length-append front (b ∷ []));
+  opened = grow-space opened b space;
+  joins = inl (ends_in_word-append front (b ∷ []) (omega arith) ∙ is_space-no_word b space);
 })
 
 finish-comment : {depth : ℕ} {front : List ℕ} {parents : List Parent} {pairs : List Pair} → Opened depth front parents pairs →
@@ -112,36 +111,36 @@ right-comment front words [] s depth opened place ends lack line =
     subst (λ text. IsRight front (35 ∷ text) (step_of s (35 ∷ text))) (sym none)
     (right front (35 ∷ words) (step_of s (35 ∷ words)) (goes_on (moved s (s.at + suc (length words)))) (step-last_comment s words lack)
     (inr (record {
-        place = omega (arith, length-append front (35 ∷ words));
-        answers = finish-comment opened words ends lack;
+      place = omega (arith, length-append front (35 ∷ words));
+      answers = finish-comment opened words ends lack;
     })))
 right-comment front words (b ∷ left) s depth opened place ends lack line =
     let feed : b ≡ 10 = eqb-true b 10 (not_false (eqb b 10) line) in
     subst (λ b. IsRight front (35 ∷ (words ++ b ∷ left)) (step_of s (35 ∷ (words ++ b ∷ left)))) (sym feed)
     (right front (35 ∷ (words ++ 10 ∷ left)) (step_of s (35 ∷ (words ++ 10 ∷ left))) (goes_on (moved s (s.at + (length words + 2)))) (step-whole_comment s words left lack)
     (inl (record {
-        taken = 35 ∷ words ++ 10 ∷ [];
-        rest = left;
-        depth = depth;
-        split = simp append_assoc;
-        some = omega arith;
-        place = omega (arith, length-append front (35 ∷ words ++ 10 ∷ []), length-append words (10 ∷ []));
-        opened = grow-comment opened ends words lack;
-        joins = inl (ends_in_word-append front (35 ∷ words ++ 10 ∷ []) (omega arith) ∙ ends_in_word-append (35 ∷ words) (10 ∷ []) (omega arith));
+      taken = 35 ∷ words ++ 10 ∷ [];
+      rest = left;
+      depth = depth;
+      split = simp append_assoc;
+      some = omega arith;
+      place = omega (arith, length-append front (35 ∷ words ++ 10 ∷ []), length-append words (10 ∷ []));
+      opened = grow-comment opened ends words lack;
+      joins = inl (ends_in_word-append front (35 ∷ words ++ 10 ∷ []) (omega arith) ∙ ends_in_word-append (35 ∷ words) (10 ∷ []) (omega arith));
     })))
 
 right-close : (front text : List ℕ) (parents : List Parent) (pairs : List Pair) (at : ℕ) → AfterClose front parents pairs → at ≡ length front →
     IsRight front (93 ∷ text) (close_in parents pairs at)
 right-close front text [] pairs at after place = tt
 right-close front text (parent ∷ parents) pairs at after place = inl (record {
-    taken = 93 ∷ [];
-    rest = text;
-    depth = after.0;
-    split = refl;
-    some = omega arith;
-    place = omega (arith, length-append front (93 ∷ []));
-    opened = after.1;
-    joins = inl (ends_in_word-append front (93 ∷ []) (omega arith));
+  taken = 93 ∷ [];
+  rest = text;
+  depth = after.0;
+  split = refl;
+  some = omega arith;
+  place = omega (arith, length-append front (93 ∷ []));
+  opened = after.1;
+  joins = inl (ends_in_word-append front (93 ∷ []) (omega arith));
 })
 
 -- where a value may stand: after a front, a key and white space
@@ -159,14 +158,14 @@ right-value : (front key gap text piece rest : List ℕ) (value : Value) (s : St
     text ≡ piece ++ rest → (begins_with_word piece ≡ true → gap ≡ [] → ⊥) → HasValue depth at piece value → Joins (front ++ (key ++ gap ++ piece)) rest →
     IsRight front (key ++ gap ++ text) (goes_on (with_pair s (record { key = key; value = value; at = at }) (at + length piece)))
 right-value front key gap text piece rest value s depth at here split apart has joins = inl (record {
-    taken = key ++ gap ++ piece;
-    rest = rest;
-    depth = depth;
-    split = ap (λ text. key ++ gap ++ text) split ∙ sym (append_assoc (key ++ gap) piece rest);
-    some = omega (arith, here.some, length-append (key ++ gap) piece);
-    place = omega (arith, here.place, length-append front (key ++ gap ++ piece), length-append (key ++ gap) piece, length-append (front ++ key) gap, length-append front key, length-append key gap);
-    opened = grow-value here.opened here.ends key gap piece value at here.is_one here.spaces apart here.place has;
-    joins = joins;
+  taken = key ++ gap ++ piece;
+  rest = rest;
+  depth = depth;
+  split = ap (λ text. key ++ gap ++ text) split ∙ sym (append_assoc (key ++ gap) piece rest);
+  some = omega (arith, here.some, length-append (key ++ gap) piece);
+  place = omega (arith, here.place, length-append front (key ++ gap ++ piece), length-append (key ++ gap) piece, length-append (front ++ key) gap, length-append front key, length-append key gap);
+  opened = grow-value here.opened here.ends key gap piece value at here.is_one here.spaces apart here.place has;
+  joins = joins;
 })
 
 -- a string: so many bytes inside, and what is left begins with a quote or is nothing
@@ -186,11 +185,11 @@ right-inside front key gap inside (b ∷ left) s depth at here lack quote =
     let piece : List ℕ = 34 ∷ inside ++ 34 ∷ [] in
     right front (key ++ gap ++ 34 ∷ (inside ++ b ∷ left)) _ (goes_on (with_pair s (pair_of inside) (at + length piece)))
     (cond-false (eqb (length inside) (length (inside ++ b ∷ left))) _ _ (eqb-less (length inside) (length (inside ++ b ∷ left)) more)
-        ∙ (ap (λ taken. goes_on (with_pair s (pair_of taken) (at + length inside + 2))) (take_at inside (b ∷ left) (length inside) refl)
-        ∙ ap (λ n. goes_on (with_pair s (pair_of inside) n)) (sym end)))
+    ∙ (ap (λ taken. goes_on (with_pair s (pair_of taken) (at + length inside + 2))) (take_at inside (b ∷ left) (length inside) refl)
+    ∙ ap (λ n. goes_on (with_pair s (pair_of inside) n)) (sym end)))
     (right-value front key gap (34 ∷ (inside ++ b ∷ left)) piece left (Text inside) s depth at here split (λ begin. absurd cc) (a_string depth at inside lack)
-        (inl (ends_in_word-append front (key ++ gap ++ piece) (omega (arith, length-append (key ++ gap) piece))
-        ∙ (ends_in_word-append (key ++ gap) piece (omega arith) ∙ ends_in_word-append (34 ∷ inside) (34 ∷ []) (omega arith)))))
+    (inl (ends_in_word-append front (key ++ gap ++ piece) (omega (arith, length-append (key ++ gap) piece))
+    ∙ (ends_in_word-append (key ++ gap) piece (omega arith) ∙ ends_in_word-append (34 ∷ inside) (34 ∷ []) (omega arith)))))
 
 right-string : (front key gap text : List ℕ) (s : State) (depth at : ℕ) → IsPlace front key gap (34 ∷ text) s depth at →
     IsRight front (key ++ gap ++ 34 ∷ text) (read_string s key at (34 ∷ text))
@@ -201,8 +200,8 @@ right-string front key gap text s depth at here =
     let split : inside ++ left ≡ text = take-append-drop (prefix_len p text) text in
     let size : length inside ≡ prefix_len p text = length-prefix_len p text in
     let all : IsRight front (key ++ gap ++ 34 ∷ (inside ++ left)) (read_inside s key at (inside ++ left) (length inside)) =
-        right-inside front key gap inside left s depth at (subst (λ text. IsPlace front key gap (34 ∷ text) s depth at) (sym split) here)
-        (list_all-take_while p text) (begins-drop_while p text) in
+    right-inside front key gap inside left s depth at (subst (λ text. IsPlace front key gap (34 ∷ text) s depth at) (sym split) here)
+    (list_all-take_while p text) (begins-drop_while p text) in
     subst (λ n. IsRight front (key ++ gap ++ 34 ∷ text) (read_inside s key at text n)) size
     (subst (λ text. IsRight front (key ++ gap ++ 34 ∷ text) (read_inside s key at text (length inside))) split all)
 
@@ -225,20 +224,21 @@ right-list front key gap text s depth at here = go (leb most_depth (length s.par
   where
     parent : Parent
     parent = record { before = s.pairs; key = key; at = at }
+
     go : (test : Bool) → leb most_depth (length s.parents) ≡ test → IsRight front (key ++ gap ++ 91 ∷ text) (open_list s key at)
     go true e = right front (key ++ gap ++ 91 ∷ text) (open_list s key at) (stops (record { at = at; kind = TooDeep })) (cond-true (leb most_depth (length s.parents)) _ _ e) tt
     go false e =
         let room : depth < most_depth = omega (arith, leb-less (length s.parents) e, Opened-depth here.opened) in
         right front (key ++ gap ++ 91 ∷ text) (open_list s key at) (goes_on (record { parents = record { before = s.pairs; key = key; at = at } ∷ s.parents; pairs = []; at = at + 1 })) (cond-false (leb most_depth (length s.parents)) _ _ e)
         (inl (record {
-            taken = key ++ gap ++ 91 ∷ [];
-            rest = text;
-            depth = suc depth;
-            split = sym (append_assoc (key ++ gap) (91 ∷ []) text);
-            some = omega (arith, length-append (key ++ gap) (91 ∷ []));
-            place = omega (arith, here.place, length-append front (key ++ gap ++ 91 ∷ []), length-append (key ++ gap) (91 ∷ []), length-append (front ++ key) gap, length-append front key, length-append key gap);
-            opened = open_one here.opened here.ends key gap at here.is_one here.spaces room here.place;
-            joins = inl (ends_in_word-append front (key ++ gap ++ 91 ∷ []) (omega (arith, length-append (key ++ gap) (91 ∷ []))) ∙ ends_in_word-append (key ++ gap) (91 ∷ []) (omega arith));
+          taken = key ++ gap ++ 91 ∷ [];
+          rest = text;
+          depth = suc depth;
+          split = sym (append_assoc (key ++ gap) (91 ∷ []) text);
+          some = omega (arith, length-append (key ++ gap) (91 ∷ []));
+          place = omega (arith, here.place, length-append front (key ++ gap ++ 91 ∷ []), length-append (key ++ gap) (91 ∷ []), length-append (front ++ key) gap, length-append front key, length-append key gap);
+          opened = open_one here.opened here.ends key gap at here.is_one here.spaces room here.place;
+          joins = inl (ends_in_word-append front (key ++ gap ++ 91 ∷ []) (omega (arith, length-append (key ++ gap) (91 ∷ []))) ∙ ends_in_word-append (key ++ gap) (91 ∷ []) (omega arith));
         }))
 
 -- what stands after a key and white space
@@ -264,8 +264,8 @@ right-value_at front key gap (b ∷ text) s depth at here ends = go (eqb b 34) (
         right front (key ++ gap ++ b ∷ text) (read_value s key at (b ∷ text)) (read_numeral s key at (b ∷ text))
         (cond-false (eqb b 34) _ _ e ∙ (cond-false (eqb b 91) _ _ f ∙ cond-true (begins_numeral b) _ _ g))
         (subst (λ text. IsRight front (key ++ gap ++ text) (read_numeral_of (kind_of word) s key at word)) split
-            (right-numeral front key gap word rest (kind_of word) s depth at (subst (λ text. IsPlace front key gap text s depth at) (sym split) here)
-                (omega arith) (begins-drop_while is_word_byte (b ∷ text)) (list_all-take_while is_word_byte (b ∷ text)) refl))
+        (right-numeral front key gap word rest (kind_of word) s depth at (subst (λ text. IsPlace front key gap text s depth at) (sym split) here)
+        (omega arith) (begins-drop_while is_word_byte (b ∷ text)) (list_all-take_while is_word_byte (b ∷ text)) refl))
     go false false false e f g =
         right front (key ++ gap ++ b ∷ text) (read_value s key at (b ∷ text)) (stops (record { at = at; kind = BadValue }))
         (cond-false (eqb b 34) _ _ e ∙ (cond-false (eqb b 91) _ _ f ∙ cond-false (begins_numeral b) _ _ g)) tt
@@ -283,13 +283,13 @@ right-key front key gap text s depth opened place ends is_one spaces begin apart
     let at : ℕ = s.at + (length key + length gap) in
     right front (key ++ gap ++ text) (read_after s key (gap ++ text)) (read_value s key at text) (read_after-key s key gap text is_one spaces begin)
     (right-value_at front key gap text s depth at (record {
-        opened = opened;
-        ends = ends;
-        is_one = is_one;
-        spaces = spaces;
-        apart = gap-apart gap text apart;
-        place = omega (arith, length-append (front ++ key) gap, length-append front key);
-        some = omega (arith, length-append key gap, is_key-some key is_one);
+      opened = opened;
+      ends = ends;
+      is_one = is_one;
+      spaces = spaces;
+      apart = gap-apart gap text apart;
+      place = omega (arith, length-append (front ++ key) gap, length-append front key);
+      some = omega (arith, length-append key gap, is_key-some key is_one);
     }) begin)
 
 right-word : (front word rest : List ℕ) (s : State) (depth : ℕ) → Opened depth front s.parents s.pairs → s.at ≡ length front → Joins front (word ++ rest) →
@@ -304,7 +304,7 @@ right-word front word rest s depth opened place joins all ends = go (is_key word
         subst (λ rest. IsRight front (word ++ rest) (read_after s word rest)) split
         (subst (λ whole. IsRight front whole (read_after s word (gap ++ text))) (append_assoc word gap text)
         (right-key front word gap text s depth opened place (word_apart front word rest joins all (is_key-some word e)) e
-            (list_all-take_while is_space rest) (begins-drop_while is_space rest) (subst (λ rest. begins is_word_byte rest ≡ false) (sym split) ends)))
+        (list_all-take_while is_space rest) (begins-drop_while is_space rest) (subst (λ rest. begins is_word_byte rest ≡ false) (sym split) ends)))
     go false e = right front (word ++ rest) (read_after s word rest) (stops (record { at = s.at; kind = BadKey })) (cond-false (is_key word) _ _ e) tt
 
 right-step : (front text : List ℕ) (s : State) (depth : ℕ) → Opened depth front s.parents s.pairs → s.at ≡ length front → Joins front text →
@@ -321,20 +321,20 @@ right-step front (b ∷ text) s depth opened place joins some = go (is_space b) 
         subst (λ b. IsRight front (b ∷ text) (step_of s (b ∷ text))) (sym (eqb-true b 35 f))
         (subst (λ text. IsRight front (35 ∷ text) (step_of s (35 ∷ text))) split
         (right-comment front (take_while p text) (drop (prefix_len p text) text) s depth opened place
-            (no_word_before front 35 text (subst (λ b. Joins front (b ∷ text)) (eqb-true b 35 f) joins) refl)
-            (list_all-take_while p text) (begins-drop_while p text)))
+        (no_word_before front 35 text (subst (λ b. Joins front (b ∷ text)) (eqb-true b 35 f) joins) refl)
+        (list_all-take_while p text) (begins-drop_while p text)))
     go false false true e f g =
         subst (λ b. IsRight front (b ∷ text) (step_of s (b ∷ text))) (sym (eqb-true b 93 g))
         (right front (93 ∷ text) (step_of s (93 ∷ text)) (close_in s.parents s.pairs s.at) (step-close s text)
-            (right-close front text s.parents s.pairs s.at (after_close opened) place))
+        (right-close front text s.parents s.pairs s.at (after_close opened) place))
     go false false false e f g =
         let word : List ℕ = take_while is_word_byte (b ∷ text) in
         let rest : List ℕ = drop (prefix_len is_word_byte (b ∷ text)) (b ∷ text) in
         let split : word ++ rest ≡ b ∷ text = take-append-drop (prefix_len is_word_byte (b ∷ text)) (b ∷ text) in
         right front (b ∷ text) (step_of s (b ∷ text)) (read_after s word rest) (step-other s b text e f g)
         (subst (λ text. IsRight front text (read_after s word rest)) split
-            (right-word front word rest s depth opened place (subst (Joins front) (sym split) joins)
-                (list_all-take_while is_word_byte (b ∷ text)) (begins-drop_while is_word_byte (b ∷ text))))
+        (right-word front word rest s depth opened place (subst (Joins front) (sym split) joins)
+        (list_all-take_while is_word_byte (b ∷ text)) (begins-drop_while is_word_byte (b ∷ text))))
 
 -- the answer from here on is right for the whole text
 right-run : (n : ℕ) (front text : List ℕ) (s : State) (depth : ℕ) → length text ≤ n → Opened depth front s.parents s.pairs → s.at ≡ length front →
@@ -351,14 +351,14 @@ right-run (suc n) front (b ∷ text) s depth fits opened place joins =
         Answers (front ++ b ∷ text) (run 0 s (b ∷ text))
     go (goes_on next) e (inl is) after =
         let move : run 0 s (is.taken ++ is.rest) ≡ run 0 next is.rest =
-            run-goes_on s next is.taken is.rest is.some (ap (step_of s) (sym is.split) ∙ e) (omega (arith, is.place, length-append front is.taken)) in
+        run-goes_on s next is.taken is.rest is.some (ap (step_of s) (sym is.split) ∙ e) (omega (arith, is.place, length-append front is.taken)) in
         subst (λ text. Answers (front ++ text) (run 0 s text)) (sym is.split)
         (subst (Answers (front ++ (is.taken ++ is.rest))) (sym move)
         (subst (λ text. Answers text (run 0 next is.rest)) (append_assoc front is.taken is.rest) (after next is)))
     go (goes_on next) e (inr is) after =
         let none : (b ∷ text) ++ [] ≡ b ∷ text = append-nil (b ∷ text) in
         let move : run 0 s ((b ∷ text) ++ []) ≡ run 0 next [] =
-            run-goes_on s next (b ∷ text) [] (omega arith) (ap (step_of s) none ∙ e) (omega (arith, is.place, length-append front (b ∷ text))) in
+        run-goes_on s next (b ∷ text) [] (omega arith) (ap (step_of s) none ∙ e) (omega (arith, is.place, length-append front (b ∷ text))) in
         subst (Answers (front ++ b ∷ text)) (sym (ap (run 0 s) (sym none) ∙ move)) is.answers
     go (stops fault) e h after = subst (Answers (front ++ b ∷ text)) (sym (run-stops s (b ∷ text) fault (omega arith) e)) h
 

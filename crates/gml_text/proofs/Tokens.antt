@@ -1,18 +1,15 @@
 -- What the reader's function does at each kind of front of a text.
-use Rattle.std.proofs.Common.{◌≡◌, ℕ, suc, ◌+◌, ◌<◌, ◌≤◌, Bool, true, false, cond, eqb, leb, List, [], ◌∷◌, ◌++◌, length, take, drop, min, not, Option, None, Some, refl, sym, ◌∙◌, ap, subst, arith, length-append, append_assoc}
-use Rattle.std.specs.List.{prefix_len, take_while, list_all}
-use Rattle.std.proofs.lemmas.List.{take_at, drop_at, append-nil}
+use Rattle.std.proofs.Common.{◌≡◌, ℕ, suc, ◌+◌, ◌<◌, true, false, eqb, leb, List, [], ◌∷◌, ◌++◌, length, drop, min, not, Some, refl, sym, ◌∙◌, ap, arith, length-append}
+use Rattle.std.specs.List.{prefix_len, list_all}
+use Rattle.std.proofs.lemmas.List.{take_at, append-nil}
 use Rattle.std.proofs.lemmas.Bool.{cond-true, cond-false}
 use Rattle.std.proofs.lemmas.Bool.Decides.{nat_tests}
 use Rattle.gml_text.specs.declared.number.NumeralKind.{NumeralKind}
-use Rattle.gml_text.specs.declared.reader.Parent.{Parent}
-use Rattle.gml_text.specs.declared.tree.Pair.{Pair}
-use Rattle.gml_text.specs.declared.tree.Value.{Value}
-use Rattle.gml_text.specs.declared.tree.Value.TheVariants.{Whole, Real, Text, Inner}
+use Rattle.gml_text.specs.declared.tree.Value.TheVariants.{Text}
 use Rattle.gml_text.specs.Bytes.{is_space, is_word_byte, is_key, are_spaces, lacks, begins_key, begins_numeral, begins_with_word}
 use Rattle.gml_text.specs.NumeralKinds.{kind_of}
 use Rattle.gml_text.specs.Texts.{most_depth}
-use Rattle.gml_text.specs.Reading.{State, Step, goes_on, stops, step_of, moved, with_pair, after_comment, close_list, read_inside, read_string, open_list, numeral_value, read_numeral_of, read_numeral, read_value_from, read_value, read_after, read_pair}
+use Rattle.gml_text.specs.Reading.{State, goes_on, step_of, moved, with_pair, after_comment, close_list, read_inside, numeral_value, read_numeral_of, read_value, read_after, read_pair}
 use Rattle.gml_text.proofs.ByteFacts.{begins_key-no_space, begins_key-no_comment, begins_key-no_close, begins_numeral-no_quote, begins_numeral-no_list}
 use Rattle.gml_text.proofs.Fronts.{begins, and-left, prefix_len-front, take_while-front, drop_while-front}
 use Rattle.gml_text.proofs.Words.{is_key-word, gap-no_word, begins-word}
@@ -50,16 +47,16 @@ pub step-whole_comment : (s : State) (words rest : List ℕ) → lacks 10 words 
     step_of s (35 ∷ (words ++ 10 ∷ rest)) ≡ goes_on (moved s (s.at + (length words + 2)))
 step-whole_comment s words rest h =
     let size : prefix_len (λ b. not (eqb b 10)) (35 ∷ (words ++ 10 ∷ rest)) ≡ suc (length words) =
-        prefix_len-front (λ b. not (eqb b 10)) (35 ∷ words) (10 ∷ rest) h refl in
+    prefix_len-front (λ b. not (eqb b 10)) (35 ∷ words) (10 ∷ rest) h refl in
     let count : s.at + min (prefix_len (λ b. not (eqb b 10)) (35 ∷ (words ++ 10 ∷ rest)) + 1) (length (35 ∷ (words ++ 10 ∷ rest))) ≡ s.at + (length words + 2) =
-        omega (arith, size, length-append words (10 ∷ rest)) in
+    omega (arith, size, length-append words (10 ∷ rest)) in
     step-comment s (words ++ 10 ∷ rest) ∙ ap (λ at. goes_on (moved s at)) count
 
 -- a comment up to the text's end
 pub step-last_comment : (s : State) (words : List ℕ) → lacks 10 words ≡ true → step_of s (35 ∷ words) ≡ goes_on (moved s (s.at + suc (length words)))
 step-last_comment s words h =
     let size : prefix_len (λ b. not (eqb b 10)) (35 ∷ words) ≡ suc (length words) =
-        ap (prefix_len (λ b. not (eqb b 10))) (sym (append-nil (35 ∷ words))) ∙ prefix_len-front (λ b. not (eqb b 10)) (35 ∷ words) [] h refl in
+    ap (prefix_len (λ b. not (eqb b 10))) (sym (append-nil (35 ∷ words))) ∙ prefix_len-front (λ b. not (eqb b 10)) (35 ∷ words) [] h refl in
     let count : s.at + min (prefix_len (λ b. not (eqb b 10)) (35 ∷ words) + 1) (length (35 ∷ words)) ≡ s.at + suc (length words) = omega (arith, size) in
     step-comment s words ∙ ap (λ at. goes_on (moved s at)) count
 

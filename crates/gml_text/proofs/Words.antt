@@ -1,11 +1,11 @@
 -- Keys and numerals are words.
-use Rattle.std.proofs.Common.{◌≡◌, ℕ, ◌+◌, ◌<◌, ◌⊎◌, inl, inr, Bool, true, false, cond, eqb, List, [], ◌∷◌, ◌++◌, ◌&&◌, ◌||◌, length, Option, None, Some, refl, sym, ◌∙◌, ap, subst, arith}
+use Rattle.std.proofs.Common.{◌≡◌, ℕ, ◌+◌, ◌<◌, ◌⊎◌, inl, inr, Bool, true, false, List, [], ◌∷◌, ◌++◌, length, Option, None, Some, refl, sym, ◌∙◌, ap, subst, arith}
 use Rattle.std.specs.List.{list_all}
 use Rattle.std.proofs.lemmas.List.Folds.{list_all-append}
 use Rattle.std.proofs.lemmas.Bool.{cond-true, cond-false}
 use Rattle.std.proofs.lemmas.Bool.Decides.{nat_tests}
 use Rattle.gml_text.specs.Bytes.{is_digit, is_space, is_word_byte, begins_key, goes_on_key, begins_numeral, is_key, are_spaces, ends_in_word, ends_in_word_after, begins_with_word}
-use Rattle.gml_text.specs.Numerals.{Sign, no_sign, plus, minus, Exponent, Numeral, sign_text, fraction_text, fraction_digits, exponent_text, numeral_text, IsNumeral, IsExponent, HasParts, IsRealNumeral, is_whole_numeral, is_sign, are_digits}
+use Rattle.gml_text.specs.Numerals.{Sign, no_sign, plus, minus, Exponent, Numeral, sign_text, fraction_text, fraction_digits, exponent_text, IsNumeral, IsExponent, HasParts, IsRealNumeral, is_whole_numeral, is_sign, are_digits}
 use Rattle.gml_text.proofs.ByteFacts.{begins_key-goes_on, goes_on_key-word, is_space-no_word, is_digit-word}
 use Rattle.gml_text.proofs.Fronts.{begins, and-left, and-right, and-both, list_all-weaken}
 
@@ -69,11 +69,11 @@ pub IsNumeralWord-from_parts : (word : List ℕ) (n : Numeral) → HasParts word
 IsNumeralWord-from_parts word n parts =
     let numeral = parts.numeral in
     subst IsNumeralWord (sym parts.written) (record {
-        all = append-word (sign_text n.sign) (n.whole ++ (fraction_text n.fraction ++ exponent_text n.exponent)) (sign-word n.sign)
-            (append-word n.whole (fraction_text n.fraction ++ exponent_text n.exponent) (digits-word n.whole numeral.whole)
-            (append-word (fraction_text n.fraction) (exponent_text n.exponent) (fraction-word n.fraction numeral.fraction)
-            (exponent-word n.exponent numeral.exponent)));
-        first = parts-first n n.sign numeral;
+      all = append-word (sign_text n.sign) (n.whole ++ (fraction_text n.fraction ++ exponent_text n.exponent)) (sign-word n.sign)
+          (append-word n.whole (fraction_text n.fraction ++ exponent_text n.exponent) (digits-word n.whole numeral.whole)
+          (append-word (fraction_text n.fraction) (exponent_text n.exponent) (fraction-word n.fraction numeral.fraction)
+          (exponent-word n.exponent numeral.exponent)));
+      first = parts-first n n.sign numeral;
     })
 
 pub IsNumeralWord-real : (word : List ℕ) → IsRealNumeral word → IsNumeralWord word
@@ -97,14 +97,14 @@ IsNumeralWord-whole (b ∷ bytes) h = go (is_sign b) refl
     go true e =
         let digits : are_digits bytes ≡ true = sym (cond-true (is_sign b) (are_digits bytes) (are_digits (b ∷ bytes)) e) ∙ h in
         record {
-            all = and-both (is_word_byte b) (list_all is_word_byte bytes) (is_sign-word b e) (digits-word bytes (are_digits-all bytes digits));
-            first = is_sign-numeral b e;
+          all = and-both (is_word_byte b) (list_all is_word_byte bytes) (is_sign-word b e) (digits-word bytes (are_digits-all bytes digits));
+          first = is_sign-numeral b e;
         }
     go false e =
         let digits : are_digits (b ∷ bytes) ≡ true = sym (cond-false (is_sign b) (are_digits bytes) (are_digits (b ∷ bytes)) e) ∙ h in
         record {
-            all = digits-word (b ∷ bytes) digits;
-            first = is_digit-numeral b (and-left (is_digit b) (list_all is_digit bytes) digits);
+          all = digits-word (b ∷ bytes) digits;
+          first = is_digit-numeral b (and-left (is_digit b) (list_all is_digit bytes) digits);
         }
 
 -- a text ends as its end does

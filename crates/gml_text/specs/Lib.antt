@@ -1,6 +1,7 @@
 pub mod Bytes
 pub mod NumeralKinds
 pub mod Numerals
+pub mod Plains
 pub mod Reading
 pub mod Texts
 pub mod Trees

@@ -1,5 +1,5 @@
 -- What the reader makes of a text, as a function.
-use Rattle.std.specs.Prelude.{◌≡◌, ℕ, zero, suc, ◌+◌, ◌-◌, ◌≤◌, Bool, true, false, List, [], ◌∷◌, ◌++◌, length, take, drop, reverse, min, Option, None, Some, Result, Ok, Err, IfOk, ◌==◌, nat_le, not, slice_index, slice_get, if◌then◌else◌}
+use Rattle.std.specs.Prelude.{◌≡◌, ℕ, zero, suc, ◌+◌, ◌-◌, ◌≤◌, List, [], ◌∷◌, ◌++◌, length, take, drop, reverse, min, Option, None, Some, Result, Ok, Err, IfOk, ◌==◌, nat_le, not, slice_index, slice_get, if◌then◌else◌}
 use Rattle.std.specs.List.{prefix_len, take_while}
 use Rattle.compact_types.specs.declared.refusal.Refusal.{Refusal}
 use Rattle.compact_types.specs.declared.refusal.Refusal.TheVariants.{Fault, NoMemory}

@@ -33,7 +33,9 @@ fn magnitude(digits: &[u8]) -> Option<u64>
 {
     let mut value: u64 = 0;
     for digit in digits {
-        value = value.checked_mul(10)?.checked_add(u64::from(*digit - b'0'))?;
+        value = value
+            .checked_mul(10)?
+            .checked_add(u64::from(*digit - b'0'))?;
     }
     Some(value)
 }
@@ -56,7 +58,13 @@ fn parts_of(word: &[u8]) -> Parts<'_>
     let minus = begins_minus(word);
     let (whole, rest) = split_digits(after_sign(word));
     let (point, fraction, exponent) = split_fraction(rest);
-    Parts { minus, whole, point, fraction, exponent }
+    Parts {
+        minus,
+        whole,
+        point,
+        fraction,
+        exponent,
+    }
 }
 
 /// Whether there is a point at the front, the digits after it, and what follows them.
@@ -167,5 +175,4 @@ pub fn numerals_have_parts()
     ensures value { (word : List ℕ) (n : Numeral) → HasParts word n → HasNoPoint n → value_of_whole word ≡ whole_value n }
     ensures numeral { (word : List ℕ) → (is_numeral word ≡ true) ↔ ((n : Numeral) × HasParts word n) }
     ensures only { (word : List ℕ) (m n : Numeral) → HasParts word m → HasParts word n → m ≡ n }
-{
-}
+{}

@@ -110,7 +110,13 @@ fn pair(alloc: Global, reader: Reader, text: &[u8]) -> Result<Reader, Refusal<Gm
     value(alloc, reader, key, at, rest)
 }
 
-fn value(alloc: Global, reader: Reader, key: &[u8], at: u32, text: &[u8]) -> Result<Reader, Refusal<GmlFault>>
+fn value(
+    alloc: Global,
+    reader: Reader,
+    key: &[u8],
+    at: u32,
+    text: &[u8],
+) -> Result<Reader, Refusal<GmlFault>>
     requires { at + length text.now ≤ 67108864 }
     ensures step { IsStep result (read_value (state_of reader) key.now at text.now) }
     ensures forward { IsForward result at (at + length text.now) }
@@ -131,7 +137,13 @@ fn value(alloc: Global, reader: Reader, key: &[u8], at: u32, text: &[u8]) -> Res
     }
 }
 
-fn string(alloc: Global, reader: Reader, key: &[u8], at: u32, text: &[u8]) -> Result<Reader, Refusal<GmlFault>>
+fn string(
+    alloc: Global,
+    reader: Reader,
+    key: &[u8],
+    at: u32,
+    text: &[u8],
+) -> Result<Reader, Refusal<GmlFault>>
     requires some { 0 < length text.now }
     requires within { at + length text.now ≤ 67108864 }
     ensures step { IsStep result (read_string (state_of reader) key.now at text.now) }
@@ -169,7 +181,13 @@ fn open(alloc: Global, reader: Reader, key: &[u8], at: u32) -> Result<Reader, Re
     })
 }
 
-fn numeral(alloc: Global, reader: Reader, key: &[u8], at: u32, text: &[u8]) -> Result<Reader, Refusal<GmlFault>>
+fn numeral(
+    alloc: Global,
+    reader: Reader,
+    key: &[u8],
+    at: u32,
+    text: &[u8],
+) -> Result<Reader, Refusal<GmlFault>>
     requires some { 0 < length text.now }
     requires within { at + length text.now ≤ 67108864 }
     ensures step { IsStep result (read_numeral (state_of reader) key.now at text.now) }

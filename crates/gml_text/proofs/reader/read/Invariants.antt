@@ -1,4 +1,4 @@
-use Rattle.std.proofs.Common.{◌≡◌, ℕ, ◌-◌, ◌≤◌, length, drop}
+use Rattle.std.proofs.Common.{◌≡◌, ◌-◌, ◌≤◌, length, drop}
 use Rattle.gml_text.specs.Reading.{run, state_of, answer_of}
 use Rattle.gml_text.proofs.reader.read.Given as goal
 
