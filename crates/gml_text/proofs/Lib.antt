@@ -1,3 +1,5 @@
+pub mod ByteFacts
+pub mod Complete
 pub mod Digits
 pub mod EndZeros
 pub mod NumeralLaws
@@ -7,3 +9,12 @@ pub mod ScaleLemmas
 pub mod Scaling
 pub mod SignedThousandths
 pub mod ThousandthsLemmas
+pub mod Fronts
+pub mod Keys
+pub mod Runs
+pub mod Tokens
+pub mod Words
+pub mod Opened
+pub mod Sound
+pub mod Plains
+pub mod PlainTexts

@@ -2,5 +2,7 @@ pub mod Bytes
 pub mod NumeralKinds
 pub mod Numerals
 pub mod Scaling
+pub mod Plains
+pub mod Reading
 pub mod Texts
 pub mod Trees

@@ -1,5 +1,5 @@
 -- Facts of trees that hold of every value in them.
-use Rattle.std.specs.Prelude.{◌≡◌, ℕ, Bool, true, false, ◌&&◌, List}
+use Rattle.std.specs.Prelude.{◌≡◌, ℕ, Bool, true, false, List}
 use Rattle.std.specs.List.{list_all}
 use Rattle.gml_text.specs.declared.tree.Tree.{Tree, Tree-F, fold-Tree}
 use Rattle.gml_text.specs.declared.tree.Pair.{Pair-F}

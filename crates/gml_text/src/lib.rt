@@ -3,6 +3,9 @@
 //! The layer above relies on `Spells`: the reader answers a tree exactly where the text has one.
 #![tactic(auto)]
 
+mod bytes;
+pub mod fault;
 pub mod number;
 pub mod plain;
+mod reader;
 pub mod tree;
