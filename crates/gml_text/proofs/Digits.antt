@@ -1,7 +1,7 @@
 -- The number that digits write.
-use Rattle.std.proofs.Common.{◌≡◌, ℕ, ◌+◌, ◌-◌, ◌*◌, ◌<◌, ◌≤◌, List, [], ◌∷◌, length, drop, get_or, ap, sym, arith}
-use Rattle.std.proofs.lemmas.List.{drop_more}
-use Rattle.gml_text.specs.Numerals.{digits_value_from}
+use Rattle.std.proofs.Common.{◌≡◌, ℕ, suc, ◌+◌, ◌-◌, ◌*◌, ◌<◌, ◌≤◌, List, [], ◌∷◌, ◌++◌, length, drop, get_or, refl, ap, sym, ◌∙◌, arith}
+use Rattle.std.proofs.lemmas.List.{drop_more, drop_all}
+use Rattle.gml_text.specs.Numerals.{digits_value, digits_value_from}
 
 -- more digits make no number less
 pub at_least_before : (before : ℕ) (digits : List ℕ) → before ≤ digits_value_from before digits
