@@ -8,3 +8,4 @@ pub mod items;
 pub mod places;
 pub mod plan;
 pub mod refusal;
+pub mod segment;
