@@ -1,0 +1,5 @@
+pub mod Conditions
+pub mod Spans
+pub mod CommonEnds
+pub mod Meetings
+pub mod Partners

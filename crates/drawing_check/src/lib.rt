@@ -1,0 +1,10 @@
+//! Whether places are a drawing of a plan: straight pieces along the axes, all vertices joined, and no crossing.
+//!
+//! The layer above relies on both directions: `check` answers the shape exactly where the places are a connected
+//! drawing, and otherwise the first fault; `is_drawing` says whether places are a drawing of a shape.
+#![tactic(auto)]
+
+mod common_end;
+mod covered;
+mod meeting;
+mod span;
