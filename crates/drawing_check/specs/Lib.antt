@@ -3,3 +3,5 @@ pub mod Spans
 pub mod CommonEnds
 pub mod Meetings
 pub mod Partners
+pub mod Courses
+pub mod Faults

@@ -6,5 +6,8 @@
 
 mod common_end;
 mod covered;
+pub mod drawing;
+pub mod fault;
 mod meeting;
 mod span;
+mod ways;
