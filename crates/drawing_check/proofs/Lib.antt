@@ -1,3 +1,4 @@
 pub mod SpanLemmas
 pub mod MeetingLemmas
 pub mod WayLemmas
+pub mod GroupLemmas

@@ -5,3 +5,4 @@ pub mod Meetings
 pub mod Partners
 pub mod Courses
 pub mod Faults
+pub mod Groups

@@ -8,6 +8,7 @@ mod common_end;
 mod covered;
 pub mod drawing;
 pub mod fault;
+mod joined;
 mod meeting;
 mod span;
 mod ways;
