@@ -2,3 +2,4 @@ pub mod SpanLemmas
 pub mod MeetingLemmas
 pub mod WayLemmas
 pub mod GroupLemmas
+pub mod ShapeLemmas

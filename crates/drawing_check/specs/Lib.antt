@@ -6,3 +6,4 @@ pub mod Partners
 pub mod Courses
 pub mod Faults
 pub mod Groups
+pub mod Shapes

@@ -4,6 +4,7 @@
 //! drawing, and otherwise the first fault; `is_drawing` says whether places are a drawing of a shape.
 #![tactic(auto)]
 
+pub mod checking;
 mod common_end;
 mod covered;
 pub mod drawing;
