@@ -57,3 +57,6 @@ fn copy_of(plan: &Plan) -> Result<Plan, NoMemory>
         pieces,
     })
 }
+
+#[cfg(test)]
+mod tests;
