@@ -9,3 +9,4 @@ pub mod items;
 pub mod places;
 pub mod plan;
 pub mod refusal;
+pub mod segment;
