@@ -13,3 +13,4 @@ pub mod Opened
 pub mod Sound
 pub mod Plains
 pub mod PlainTexts
+pub mod FirstFaults
