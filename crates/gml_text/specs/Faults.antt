@@ -1,11 +1,12 @@
 -- The first fault of a text: the front that is right, what stands there, and the rest.
-use Rattle.std.specs.Prelude.{◌≡◌, ℕ, suc, ◌+◌, ◌<◌, Bool, true, false, List, [], ◌∷◌, ◌++◌, length, Option, None, Some, ◌==◌}
+use Rattle.std.specs.Prelude.{◌≡◌, ℕ, suc, ◌+◌, ◌<◌, Bool, true, false, List, [], ◌∷◌, ◌++◌, length, Option, None, Some, ◌==◌, ◌⊎◌}
 use Rattle.gml_text.specs.declared.fault.GmlFault.{GmlFault}
 use Rattle.gml_text.specs.declared.fault.GmlKind.TheVariants.{BadKey, BadValue, BadNumeral, OpenString, OpenList, StrayClose, TooDeep}
+use Rattle.gml_text.specs.declared.tree.Tree.{Tree}
 use Rattle.gml_text.specs.declared.tree.Pair.{Pair}
 use Rattle.gml_text.specs.Bytes.{is_space, is_word_byte, begins_numeral, ends_in_word, first_word, lacks, are_spaces, is_key}
 use Rattle.gml_text.specs.Numerals.{Numeral, HasParts}
-use Rattle.gml_text.specs.Texts.{most_depth, Pairs}
+use Rattle.gml_text.specs.Texts.{most_depth, Pairs, Spells}
 
 -- a text after which a key may stand, inside so many open lists; where the innermost open `[` stands, if there is one
 pub data KeyPlace : (depth : ℕ) → List ℕ → Option ℕ → Type 0 where
@@ -49,3 +50,10 @@ pub data FirstFault : List ℕ → GmlFault → Type 0 where
       KeyPlace 0 front None → FirstFault (front ++ 93 ∷ rest) (record { at = length front; kind = StrayClose })
   too_deep : (front rest : List ℕ) →
       ValuePlace most_depth front → FirstFault (front ++ 91 ∷ rest) (record { at = length front; kind = TooDeep })
+
+-- the text has one tree and no fault, or one first fault and no tree
+pub record HasOneAnswer (text : List ℕ) : Type 0 where
+  pub some : ((tree : Tree) × Spells text tree) ⊎ ((fault : GmlFault) × FirstFault text fault)
+  pub one_tree : (a b : Tree) → Spells text a → Spells text b → a ≡ b
+  pub one_fault : (a b : GmlFault) → FirstFault text a → FirstFault text b → a ≡ b
+  pub not_both : (tree : Tree) (fault : GmlFault) → Spells text tree → FirstFault text fault → ⊥

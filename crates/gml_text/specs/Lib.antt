@@ -4,5 +4,6 @@ pub mod NumeralKinds
 pub mod Numerals
 pub mod Plains
 pub mod Reading
+pub mod Scaling
 pub mod Texts
 pub mod Trees
