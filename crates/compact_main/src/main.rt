@@ -8,6 +8,8 @@ use std::process::ExitCode;
 use std::{env, io};
 
 pub mod chain;
+pub mod note;
+pub mod notify;
 pub mod command;
 pub mod run;
 pub mod status;

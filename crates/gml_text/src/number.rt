@@ -68,7 +68,7 @@ pub fn whole(lexeme: &[u8]) -> Option<i64>
 
 /// Which kind of numeral the word is; `None` where it is none.
 #[tactic(auto, using(crate::proofs::PartLemmas::kind_of_cut))]
-pub(crate) fn numeral_kind(word: &[u8]) -> Option<NumeralKind>
+pub fn numeral_kind(word: &[u8]) -> Option<NumeralKind>
     ensures { result ≡ kind_of word.now }
 {
     let parts = parts_of(word);
