@@ -1,9 +1,8 @@
 -- The function that tells the kind of a word agrees with the definitions of numerals.
 use Rattle.std.specs.Prelude.{◌==◌}
-use Rattle.std.proofs.Common.{◌≡◌, ℕ, ◌+◌, ◌<◌, Bool, true, false, cond, List, [], ◌∷◌, ◌++◌, length, Option, None, Some, refl, sym, ap, ◌∙◌, ◌⊎◌, inl, inr, arith, ◌&&◌, ◌||◌, subst}
+use Rattle.std.proofs.Common.{◌≡◌, ℕ, ◌<◌, Bool, true, false, cond, List, [], ◌∷◌, ◌++◌, length, Option, None, Some, refl, sym, ap, ◌∙◌, ◌⊎◌, inl, inr, arith, ◌&&◌, ◌||◌}
 use Rattle.std.specs.Option.{is_some, IsSome}
 use Rattle.std.proofs.lemmas.List.{append-nil}
-use Rattle.std.proofs.lemmas.Bool.Decides.{nat_tests}
 use Rattle.gml_text.specs.declared.number.NumeralKind.{NumeralKind}
 use Rattle.gml_text.specs.declared.number.NumeralKind.TheVariants.{Whole, Real}
 use Rattle.gml_text.specs.Numerals.{Sign, no_sign, plus, minus, Exponent, Numeral, HasParts, IsNumeral, HasNoPoint, value_of_whole, whole_value, with_sign, digits_value, IsRealNumeral, is_whole_numeral, are_digits, is_sign, sign_text, numeral_text, fraction_digits}

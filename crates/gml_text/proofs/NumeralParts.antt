@@ -1,14 +1,12 @@
 -- A numeral has one way to be split into its parts.
-use Rattle.std.proofs.Common.{◌≡◌, ℕ, suc, ◌+◌, ◌<◌, Bool, true, false, cond, List, [], ◌∷◌, ◌++◌, length, take, drop, Option, None, Some, refl, sym, ap, add_comm, add-one, ◌∙◌, ◌⊎◌, inl, inr, arith, eqb, ◌&&◌, ◌||◌}
+use Rattle.std.proofs.Common.{◌≡◌, ℕ, ◌+◌, ◌<◌, Bool, true, false, cond, List, [], ◌∷◌, ◌++◌, length, take, Option, None, Some, refl, sym, ap, add_comm, add-one, ◌∙◌, ◌⊎◌, inl, inr, arith, ◌&&◌, ◌||◌}
 use Rattle.std.specs.Prelude.{◌==◌, nat_lt}
-use Rattle.std.specs.List.{list_all, prefix_len, take_while}
-use Rattle.std.specs.Option.{is_some, IsSome}
+use Rattle.std.specs.List.{list_all, prefix_len}
 use Rattle.std.proofs.lemmas.List.{take-append-drop, take_at, drop_at}
 use Rattle.std.proofs.lemmas.Bool.Decides.{nat_tests}
-use Rattle.std.proofs.lemmas.Grind.{common_steps}
 use Rattle.gml_text.specs.Bytes.{is_digit}
 use Rattle.gml_text.specs.Numerals.{Sign, no_sign, plus, minus, Exponent, Numeral, HasParts, IsNumeral, IsExponent, sign_text, fraction_digits, fraction_text, exponent_text, numeral_text, are_digits, is_sign}
-use Rattle.gml_text.specs.NumeralKinds.{sign_of, after_sign, front_digits, after_digits, fraction_of, after_fraction, exponent_of, parts_after, parts_of, is_exponent, has_digit, is_real, kind_of_parts}
+use Rattle.gml_text.specs.NumeralKinds.{sign_of, after_sign, front_digits, after_digits, fraction_of, after_fraction, exponent_of, parts_after, parts_of, is_exponent, has_digit}
 
 pub and_true : (a b : Bool) → (a && b) ≡ true → (a ≡ true) × (b ≡ true)
 and_true true b h = (refl, h)

@@ -1,8 +1,8 @@
 -- A number times powers of ten, above and below.
-use Rattle.std.proofs.Common.{◌≡◌, ℕ, zero, suc, ◌+◌, ◌-◌, ◌*◌, ◌/◌, ◌^◌, ◌<◌, ◌≤◌, ◌%◌, ◌≢◌, min, ◌⊎◌, inl, inr, refl, ap, sym, ◌∙◌, arith, subst, add-zero, Result, Ok, Err, ⊎_elim}
+use Rattle.std.proofs.Common.{◌≡◌, ℕ, suc, ◌+◌, ◌-◌, ◌*◌, ◌/◌, ◌^◌, ◌<◌, ◌≤◌, ◌%◌, ◌≢◌, min, ◌⊎◌, inl, inr, ap, sym, ◌∙◌, arith, Result, Ok, Err, ⊎_elim}
 use Rattle.std.specs.Result.{MatchResult}
 use Rattle.std.proofs.lemmas.Bool.{cases_lt}
-use native.Mathlib.Nat.{mul_assoc, mul_comm, mul_right_comm, pow-succ', mul-div_cancel, mul-mod_left, one-le-pow, pow-le-pow_right, mul-le-mul_left, mul-le-mul_right}
+use native.Mathlib.Nat.{mul_assoc, mul_comm, pow-succ', mul-div_cancel, mul-mod_left, one-le-pow, pow-le-pow_right, mul-le-mul_left, mul-le-mul_right}
 use Rattle.std.proofs.lemmas.Nat.{pow-add}
 use Rattle.gml_text.specs.declared.number.NumberFault.{NumberFault}
 use Rattle.gml_text.specs.declared.number.NumberFault.TheVariants.{TooFine, OutOfRange}

@@ -1,13 +1,13 @@
 -- From magnitudes to signed thousandths.
 use Rattle.std.specs.Prelude.{unsigned_abs, ◌↔◌}
-use Rattle.std.proofs.Common.{◌≡◌, ℕ, zero, suc, ◌+◌, ◌-◌, ◌*◌, ◌^◌, ◌<◌, ◌≤◌, ℤ, pos, negsuc, neg_ℤ, ◌+ℤ◌, ◌-ℤ◌, ◌*ℤ◌, Bool, true, false, ◌⊎◌, inl, inr, List, ◌++◌, length, Option, None, Some, Result, Ok, Err, refl, ap, sym, ◌∙◌, arith, subst, ⊎_elim}
+use Rattle.std.proofs.Common.{◌≡◌, ℕ, zero, suc, ◌+◌, ◌-◌, ◌*◌, ◌^◌, ◌<◌, ◌≤◌, ℤ, pos, negsuc, ◌+ℤ◌, ◌-ℤ◌, ◌*ℤ◌, Bool, true, false, ◌++◌, length, Option, None, Some, Result, Ok, Err, refl, ap, sym, ◌∙◌, arith, subst, ⊎_elim}
 use native.Mathlib.Nat.{mul_assoc, mul-pos}
 use Rattle.std.proofs.lemmas.Nat.{pow-add}
 use Rattle.std.proofs.lemmas.Int.{ints}
 use Rattle.std.proofs.lemmas.Bool.{cases_lt}
 use Rattle.gml_text.specs.declared.number.NumberFault.{NumberFault}
 use Rattle.gml_text.specs.declared.number.NumberFault.TheVariants.{TooFine, OutOfRange}
-use Rattle.gml_text.specs.Numerals.{Sign, no_sign, plus, minus, Exponent, Numeral, HasParts, digits_value, with_sign, fraction_digits, mantissa, exponent_value, power_of_ten, IsTimesTen, IsThousandths, most_thousandths}
+use Rattle.gml_text.specs.Numerals.{Sign, no_sign, plus, minus, Exponent, Numeral, digits_value, with_sign, fraction_digits, exponent_value, power_of_ten, IsTimesTen, IsThousandths, most_thousandths}
 use Rattle.gml_text.specs.NumeralKinds.{is_minus}
 use Rattle.gml_text.specs.Scaling.{IsRaised, IsRaisedOrFault, tens_above, tens_below, tens_above_by, tens_below_by, signed, signed_answer}
 use Rattle.gml_text.proofs.Scaling.{cancel, power_above_zero}

@@ -1,9 +1,9 @@
 -- Trees that are read are within the grammar.
-use Rattle.std.proofs.Common.{◌≡◌, ℕ, suc, ◌<◌, Bool, true, false, ltb, List, [], ◌∷◌, ◌++◌, ◌&&◌, map, refl, sym, ◌∙◌, ap, arith}
+use Rattle.std.proofs.Common.{◌≡◌, ℕ, suc, ◌<◌, Bool, true, ltb, List, [], ◌∷◌, ◌&&◌, map, refl, ◌∙◌, ap, arith}
 use Rattle.std.specs.List.{list_all}
 use Rattle.std.proofs.lemmas.List.Folds.{list_all-append}
 use Rattle.std.proofs.lemmas.Bool.Decides.{nat_tests}
-use Rattle.gml_text.specs.declared.tree.Tree.{Tree, out-Tree, roll-Tree, out-roll-Tree, fold-Tree, fold_out-Tree}
+use Rattle.gml_text.specs.declared.tree.Tree.{Tree, out-Tree, roll-Tree, out-roll-Tree, fold_out-Tree}
 use Rattle.gml_text.specs.declared.tree.Pair.{Pair, fold-Pair, fold_out-Pair}
 use Rattle.gml_text.specs.declared.tree.Value.{Value, out-Value, fold-Value, fold_out-Value}
 use Rattle.gml_text.specs.declared.tree.Value.TheVariants.{Whole, Real, Text, Inner}

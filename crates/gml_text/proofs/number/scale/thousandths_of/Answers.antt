@@ -1,9 +1,7 @@
-use Rattle.std.proofs.Common.{◌≡◌, ℕ, ◌+◌, ◌-◌, ◌<◌, ◌≤◌, length, min, arith}
+use Rattle.std.proofs.Common.{◌+◌, ◌<◌, length, arith}
 use Rattle.std.proofs.lemmas.Bool.Decides.{nat_tests}
 use Rattle.gml_text.specs.NumeralKinds.{exponent_of}
-use Rattle.gml_text.specs.Scaling.{tens_above, tens_below}
-use Rattle.gml_text.proofs.Scaling.{top}
-use Rattle.gml_text.proofs.ScaleLemmas.{left_out, too_fine_by_kept, too_great_by_kept, raised_by_kept}
+use Rattle.gml_text.proofs.ScaleLemmas.{too_fine_by_kept, too_great_by_kept, raised_by_kept}
 use Rattle.gml_text.proofs.number.scale.thousandths_of.Goals as goal
 use Rattle.gml_text.proofs.number.scale.thousandths_of.Goals.{else-is_empty-via-then-is_empty+else-is_empty-2, else-is_empty-via-else-is_empty}
 
