@@ -1,5 +1,5 @@
 -- Every text has one answer.
-use Rattle.std.proofs.Common.{◌≡◌, ℕ, ◌⊎◌, inl, inr, true, List, Result, Ok, Err, IfOk, refl, sym, ◌∙◌, subst}
+use Rattle.std.proofs.Common.{◌≡◌, ℕ, ◌⊎◌, inl, inr, true, List, Result, Ok, Err, IfOk, subst}
 use Rattle.compact_types.specs.Refusals.{Gives, IfFault}
 use Rattle.compact_types.specs.declared.refusal.Refusal.{Refusal}
 use Rattle.compact_types.specs.declared.refusal.Refusal.TheVariants.{Fault, NoMemory}
@@ -20,10 +20,10 @@ answered text (Err fault) h = inr (fault, h)
 
 pub one_answer : (text : List ℕ) → HasOneAnswer text
 one_answer text = record {
-    some = answered text (answer_of text) (answer_of-right text);
-    one_tree = λ a b h k. let e = answer_of-spelled text a h in let f = answer_of-spelled text b k in cc;
-    one_fault = λ a b h k. let e = answer_of-fault h in let f = answer_of-fault k in cc;
-    not_both = λ tree fault h k. let e = answer_of-spelled text tree h in let f = answer_of-fault k in cc;
+  some = answered text (answer_of text) (answer_of-right text);
+  one_tree = λ a b h k. let e = answer_of-spelled text a h in let f = answer_of-spelled text b k in cc;
+  one_fault = λ a b h k. let e = answer_of-fault h in let f = answer_of-fault k in cc;
+  not_both = λ tree fault h k. let e = answer_of-spelled text tree h in let f = answer_of-fault k in cc;
 }
 
 -- what the reader answers, by the answer of its function

@@ -7,7 +7,7 @@ use Rattle.std.proofs.lemmas.Bool.{cond-true, cond-false, eqb-true, eq-eqb}
 use Rattle.std.proofs.lemmas.Bool.Decides.{nat_tests}
 use Rattle.gml_text.specs.declared.fault.GmlFault.{GmlFault}
 use Rattle.gml_text.specs.declared.fault.GmlKind.{GmlKind}
-use Rattle.gml_text.specs.declared.fault.GmlKind.TheVariants.{BadKey, BadValue, BadNumeral, OpenString, OpenList, StrayClose, TooDeep}
+use Rattle.gml_text.specs.declared.fault.GmlKind.TheVariants.{BadKey, BadValue, BadNumeral, OpenString, StrayClose, TooDeep}
 use Rattle.gml_text.specs.declared.number.NumeralKind.{NumeralKind}
 use Rattle.gml_text.specs.declared.number.NumeralKind.TheVariants as kinds
 use Rattle.gml_text.specs.declared.reader.Parent.{Parent}
@@ -248,8 +248,8 @@ right-numeral front key gap (b ∷ word) rest None s depth at here some ends all
     let same : first_word (b ∷ (word ++ rest)) ≡ b ∷ word = take_while-front is_word_byte (b ∷ word) rest all ends in
     value_fault front key gap (b ∷ (word ++ rest)) s depth at BadNumeral here
     (bad_numeral depth (front ++ key ++ gap) b (word ++ rest) (value_place here)
-      (value_apart front key gap b (word ++ rest) s depth at here (and-left (is_word_byte b) (list_all is_word_byte word) all)) first
-      (λ n parts. none-kind_of (b ∷ word) e n (subst (λ word. HasParts word n) same parts)))
+    (value_apart front key gap b (word ++ rest) s depth at here (and-left (is_word_byte b) (list_all is_word_byte word) all)) first
+    (λ n parts. none-kind_of (b ∷ word) e n (subst (λ word. HasParts word n) same parts)))
 right-numeral front key gap word rest (Some kind) s depth at here some ends all first e =
     right-value front key gap (word ++ rest) word rest (numeral_value kind word) s depth at here refl
     (λ begin. here.apart (begins_with_word-append word rest some ∙ begin)) (has-numeral depth at word kind e)
@@ -265,7 +265,7 @@ right-list front key gap text s depth at here = go (leb most_depth (length s.par
     go : (test : Bool) → leb most_depth (length s.parents) ≡ test → IsRight front (key ++ gap ++ 91 ∷ text) (begin_list s key at)
     go true e = right front (key ++ gap ++ 91 ∷ text) (begin_list s key at) (stops (record { at = at; kind = TooDeep })) (cond-true (leb most_depth (length s.parents)) _ _ e)
         (value_fault front key gap (91 ∷ text) s depth at TooDeep here
-          (too_deep (front ++ key ++ gap) text (subst (λ depth. ValuePlace depth (front ++ key ++ gap)) (omega (arith, leb-most (length s.parents) e, Opened-depth here.opened, Opened-most here.opened)) (value_place here))))
+        (too_deep (front ++ key ++ gap) text (subst (λ depth. ValuePlace depth (front ++ key ++ gap)) (omega (arith, leb-most (length s.parents) e, Opened-depth here.opened, Opened-most here.opened)) (value_place here))))
     go false e =
         let room : depth < most_depth = omega (arith, leb-less (length s.parents) e, Opened-depth here.opened) in
         right front (key ++ gap ++ 91 ∷ text) (begin_list s key at) (goes_on (record { parents = record { before = s.pairs; key = key; at = at } ∷ s.parents; pairs = []; at = at + 1 })) (cond-false (leb most_depth (length s.parents)) _ _ e)
@@ -308,12 +308,12 @@ right-value_at front key gap (b ∷ text) s depth at here ends = go (eqb b 34) (
         (subst (λ text. IsRight front (key ++ gap ++ text) (read_numeral_of (kind_of word) s key at word)) split
         (right-numeral front key gap word rest (kind_of word) s depth at (subst (λ text. IsPlace front key gap text s depth at) (sym split) here)
         (omega arith) (begins-drop_while is_word_byte (b ∷ text)) (list_all-take_while is_word_byte (b ∷ text))
-            (ap (λ n. begins begins_numeral (take n (b ∷ text))) one ∙ g) refl))
+        (ap (λ n. begins begins_numeral (take n (b ∷ text))) one ∙ g) refl))
     go false false false e f g =
         right front (key ++ gap ++ b ∷ text) (read_value s key at (b ∷ text)) (stops (record { at = at; kind = BadValue }))
         (cond-false (eqb b 34) _ _ e ∙ (cond-false (eqb b 91) _ _ f ∙ cond-false (begins_numeral b) _ _ g))
         (value_fault front key gap (b ∷ text) s depth at BadValue here
-          (bad_value depth (front ++ key ++ gap) b text (value_place here) ends e f g (value_apart front key gap b text s depth at here)))
+        (bad_value depth (front ++ key ++ gap) b text (value_place here) ends e f g (value_apart front key gap b text s depth at here)))
 
 gap-apart : (gap text : List ℕ) → begins is_word_byte (gap ++ text) ≡ false → begins_with_word text ≡ true → gap ≡ [] → ⊥
 gap-apart gap text ends begin none =
@@ -383,8 +383,8 @@ right-step front (b ∷ text) s depth opened place joins some = go (is_space b) 
         (subst (λ text. IsRight front text (read_after s word rest)) split
         (right-word front word rest s depth opened place (subst (Joins front) (sym split) joins)
         (list_all-take_while is_word_byte (b ∷ text)) (begins-drop_while is_word_byte (b ∷ text))
-            (λ no_key. subst (λ text. FirstFault (front ++ text) (record { at = length front; kind = BadKey })) (sym split)
-                (bad_key depth front (innermost s.parents) b text (key_place opened) e f g (no_word_before front b text joins) no_key))))
+        (λ no_key. subst (λ text. FirstFault (front ++ text) (record { at = length front; kind = BadKey })) (sym split)
+        (bad_key depth front (innermost s.parents) b text (key_place opened) e f g (no_word_before front b text joins) no_key))))
 
 -- the answer from here on is right for the whole text
 right-run : (n : ℕ) (front text : List ℕ) (s : State) (depth : ℕ) → length text ≤ n → Opened depth front s.parents s.pairs → s.at ≡ length front →

@@ -1,18 +1,20 @@
 -- Trees that are read are within the grammar.
-use Rattle.std.proofs.Common.{◌≡◌, ℕ, suc, ◌<◌, Bool, true, false, ltb, List, [], ◌∷◌, ◌++◌, ◌&&◌, map, refl, sym, ◌∙◌, ap, arith}
+use Rattle.std.proofs.Common.{Option, None, Some, ◌≡◌, ℕ, suc, ◌<◌, Bool, true, ltb, List, [], ◌∷◌, ◌&&◌, map, refl, ◌∙◌, ap, arith}
+use Rattle.std.specs.Option.{is_some}
 use Rattle.std.specs.List.{list_all}
 use Rattle.std.proofs.lemmas.List.Folds.{list_all-append}
 use Rattle.std.proofs.lemmas.Bool.Decides.{nat_tests}
-use Rattle.gml_text.specs.declared.tree.Tree.{Tree, out-Tree, roll-Tree, out-roll-Tree, fold-Tree, fold_out-Tree}
+use Rattle.gml_text.specs.declared.number.NumeralKind.{NumeralKind}
+use Rattle.gml_text.specs.declared.tree.Tree.{Tree, out-Tree, roll-Tree, out-roll-Tree, fold_out-Tree}
 use Rattle.gml_text.specs.declared.tree.Pair.{Pair, fold-Pair, fold_out-Pair}
 use Rattle.gml_text.specs.declared.tree.Value.{Value, out-Value, fold-Value, fold_out-Value}
 use Rattle.gml_text.specs.declared.tree.Value.TheVariants.{Whole, Real, Text, Inner}
 use Rattle.gml_text.specs.Bytes.{lacks, is_key}
 use Rattle.gml_text.specs.Numerals.{is_whole_numeral}
-use Rattle.gml_text.specs.NumeralKinds.{kind_of}
+use Rattle.gml_text.specs.NumeralKinds.{kind_of, is_numeral}
 use Rattle.gml_text.specs.Texts.{most_depth, Pairs, OnePair, HasValue, no_more, a_space, a_comment, one_more, a_pair, a_whole_numeral, a_real_numeral, a_string, a_list, IsText, to_the_end, in_a_comment, Spells}
 use Rattle.gml_text.specs.Trees.{value_is_within, pair_is_within, list_is_within, is_within, is_within_grammar, is_real_kind}
-use Rattle.gml_text.proofs.NumeralLaws.{kind_of-real}
+use Rattle.gml_text.proofs.NumeralLaws.{kind_of-whole, kind_of-real}
 use Rattle.gml_text.proofs.Fronts.{and-both}
 
 abbrev pub value_within : Value → ℕ → Bool
@@ -82,3 +84,14 @@ text-within (in_a_comment text pairs words h ends lack) = pairs-within h
 
 pub is_within_grammar-spelled : (text : List ℕ) (tree : Tree) → Spells text tree → is_within_grammar tree ≡ true
 is_within_grammar-spelled text tree h = is_within-pairs tree 0 ∙ text-within h
+
+-- the numerals of such a tree have a value in thousandths
+pub is_numeral-whole : (word : List ℕ) → is_whole_numeral word ≡ true → is_numeral word ≡ true
+is_numeral-whole word h = ap is_some (kind_of-whole word h)
+
+pub is_numeral-real : (word : List ℕ) → is_real_kind (kind_of word) ≡ true → is_numeral word ≡ true
+is_numeral-real word h = go (kind_of word) h
+  where
+    go : (found : Option NumeralKind) → is_real_kind found ≡ true → is_some found ≡ true
+    go None h = h
+    go (Some kind) h = refl

@@ -90,3 +90,30 @@ fn none_unless_memory(refusal: Refusal<GmlFault>) -> Result<Option<Tree>, NoMemo
         Refusal::NoMemory => Err(NoMemory),
     }
 }
+
+#[cfg(test)]
+mod tests {
+    use super::*;
+    use std::test::Fail;
+
+    #[test]
+    fn plain_texts(rt: HostRuntime) -> Result<(), Fail> {
+        let texts = [
+            (b"".as_slice(), Some(0)),
+            (b"a 1 b[c -2 d []]".as_slice(), Some(2)),
+            (b"a 1 #\n".as_slice(), None),
+            (b"a \"x\"".as_slice(), None),
+            (b"a [b 1.5]".as_slice(), None),
+            (b"a [b 1".as_slice(), None),
+        ];
+        for (text, pairs) in texts {
+            assert!(rt; text.len() < 1000);
+            let found = match read_plain(rt.alloc(), text)? {
+                Some(tree) => Some(tree.pairs.len()),
+                None => None,
+            };
+            assert_eq!(rt; found, pairs);
+        }
+        Ok(())
+    }
+}

@@ -81,7 +81,10 @@ mod tests {
             (b"a 1\"".as_slice(), 3, GmlKind::BadKey),
         ];
         for (text, at, kind) in faults {
-            assert_eq!(rt; fault_of(&rt, rt.alloc(), text), Some(GmlFault { at, kind }));
+            assert_eq!(rt;
+                fault_of(&rt, rt.alloc(), text),
+                Some(GmlFault { at, kind })
+            );
         }
     }
 

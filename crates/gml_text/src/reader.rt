@@ -45,5 +45,5 @@ pub(crate) fn read(alloc: Global, bytes: &[u8]) -> Result<Tree, Refusal<GmlFault
         let (_, text) = bytes.split_at(reader.at as usize);
         reader = steps::step(alloc, reader, text)?;
     }
-    steps::finish(reader)
+    steps::finish(reader).map_err(Refusal::Fault)
 }

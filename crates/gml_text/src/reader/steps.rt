@@ -40,15 +40,18 @@ pub(crate) fn step(alloc: Global, reader: Reader, text: &[u8]) -> Result<Reader,
 }
 
 /// The tree, where the text ends outside all lists.
-pub(crate) fn finish(reader: Reader) -> Result<Tree, Refusal<GmlFault>>
-    ensures { Gives result (finish (state_of reader)) }
+pub(crate) fn finish(reader: Reader) -> Result<Tree, GmlFault>
+    ensures { result ≡ finish (state_of reader) }
 {
     let mut parents = reader.parents;
     match parents.pop() {
         None => Ok(Tree {
             pairs: reader.pairs,
         }),
-        Some(parent) => Err(fault(parent.at, GmlKind::OpenList)),
+        Some(parent) => Err(GmlFault {
+            at: parent.at,
+            kind: GmlKind::OpenList,
+        }),
     }
 }
 
