@@ -1,5 +1,5 @@
 -- The least points of an extent.
-use Rattle.std.proofs.Common.{MatchOption, subst, ◌≡◌, ℤ, pos, ◌+ℤ◌, ◌≤ℤ◌, ◌<ℤ◌, Option, Some, None, ap, ◌∙◌, sym, inl, inr, ◌⊎◌, arith, Bool, true, false, ◌&&◌, int_eq}
+use Rattle.std.proofs.Common.{MatchOption, subst, ◌≡◌, ℤ, pos, ◌+ℤ◌, ◌≤ℤ◌, ◌<ℤ◌, Option, Some, None, ap, ◌∙◌, sym, inl, inr, arith, Bool, true, false, ◌&&◌, int_eq}
 use Rattle.std.proofs.lemmas.Int.{ints}
 use Rattle.std.proofs.lemmas.Bool.{and_parts}
 use Rattle.std.proofs.lemmas.Bool.Decides.{Decides-int_eq}
