@@ -4,6 +4,7 @@
 //! and what an answer with a refusal says.
 #![tactic(auto)]
 
+pub mod bests;
 pub mod items;
 pub mod places;
 pub mod plan;

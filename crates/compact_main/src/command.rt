@@ -1,0 +1,34 @@
+ghost use Rattle.std.specs.Prelude.{◌≡◌, IfSome, IfNone};
+ghost use Rattle.compact_main.specs.declared.command.Command.{Command};
+ghost use Rattle.compact_main.specs.Commands.{texts_of, Asks, limit_of};
+
+/// What the program is asked to do.
+#[derive(Clone, Copy, Debug, PartialEq, Eq)]
+pub enum Command {
+    /// `draw --plain`: the shortest drawing of the text's shape, without a certificate.
+    Draw,
+}
+
+/// The command that the words ask for; `None` for every other list of words. No memory is taken.
+pub fn command_of(words: &[String]) -> Option<Command>
+    ensures some { IfSome result (λ command. Asks (texts_of words.now) command) }
+    ensures none { IfNone result ((command : Command) → Asks (texts_of words.now) command → ⊥) }
+{
+    match words {
+        [command, option] if command.as_str() == "draw" && option.as_str() == "--plain" => {
+            Some(Command::Draw)
+        }
+        _ => None,
+    }
+}
+
+impl Command {
+    /// How many bytes the text may have.
+    pub fn limit(self) -> usize
+        ensures { result ≡ limit_of self }
+    {
+        match self {
+            Command::Draw => 4_194_304,
+        }
+    }
+}

@@ -1,0 +1,44 @@
+/// Why a text is refused.
+#[derive(Clone, Copy, Debug, PartialEq, Eq)]
+pub enum Why {
+    /// It has more bytes than the command reads.
+    TooLong,
+    /// What it asks for is not built yet.
+    NotYet,
+}
+
+/// How a run ended. Its number is what the program exits with.
+#[derive(Clone, Copy, Debug, PartialEq, Eq)]
+pub enum Status {
+    /// The text was read to its end, and all was written.
+    Done,
+    /// The command does not accept the text; nothing was written.
+    Refused(Why),
+    /// The words ask for no command; nothing was read.
+    BadWords,
+    /// A read failed; nothing was written.
+    ReadFault,
+    /// A write failed; a front of the output may have been written.
+    WriteFault,
+    /// Memory was refused; nothing was written.
+    NoMemory,
+}
+
+impl Status {
+    ghost use Rattle.std.specs.Prelude.{◌≡◌};
+    ghost use Rattle.compact_main.specs.Statuses.{number_of_status};
+
+    /// The number that the program exits with.
+    pub fn number(self) -> u8
+        ensures { result ≡ number_of_status self }
+    {
+        match self {
+            Status::Done => 0,
+            Status::Refused(_) => 1,
+            Status::BadWords => 2,
+            Status::ReadFault => 3,
+            Status::WriteFault => 4,
+            Status::NoMemory => 5,
+        }
+    }
+}
