@@ -20,7 +20,7 @@ use Rattle.compact_types.specs.Connected.{IsConnected}
 use Rattle.drawing_check.specs.declared.fault.ShapeFault.{ShapeFault}
 use Rattle.drawing_check.specs.declared.fault.ShapeFault.TheVariants.{ZeroPiece, Slanted, Disconnected, Meeting}
 use Rattle.drawing_check.specs.Courses.{HasNoLength, IsSlanted, AllHaveWays, AreWays}
-use Rattle.drawing_check.specs.Spans.{IsPointBefore, IsLeastPoint}
+use Rattle.drawing_check.specs.Points.{IsPointBefore, IsLeastPoint}
 use Rattle.drawing_check.specs.Meetings.{Meets, IsApart, IsFirstMeeting}
 use Rattle.drawing_check.specs.Faults.{IsFirst, IsFirstApart, FirstShapeFault}
 use Rattle.drawing_check.specs.Shapes.{IsShapeOf}

@@ -5,7 +5,8 @@ use Rattle.std.proofs.lemmas.Bool.{and_parts}
 use Rattle.std.proofs.lemmas.Bool.Decides.{Decides-int_eq}
 use Rattle.compact_types.specs.declared.places.Point.{Point}
 use Rattle.drawing_check.specs.declared.span.Extent.{Extent}
-use Rattle.drawing_check.specs.Spans.{IsInside, IsInsideBut, IsPointBefore, IsLeastPoint}
+use Rattle.drawing_check.specs.Spans.{IsInside, IsInsideBut}
+use Rattle.drawing_check.specs.Points.{IsPointBefore, IsLeastPoint}
 
 -- two points with the same coordinates
 pub same_point : (a b : Point) → a.x ≡ b.x → a.y ≡ b.y → a ≡ b
