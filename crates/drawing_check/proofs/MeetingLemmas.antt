@@ -8,13 +8,15 @@ use Rattle.compact_types.specs.declared.plan.Piece.{Piece}
 use Rattle.compact_types.specs.declared.plan.Plan.{Plan}
 use Rattle.compact_types.specs.declared.plan.Shape.{Shape}
 use Rattle.compact_types.specs.Lookups.{place, piece_at, IsEnd, HaveSameEnds}
-use Rattle.compact_types.specs.Drawings.{OnPiece, MayShare, HasWays, IsCrossingFree, IsDrawing}
+use Rattle.compact_types.specs.Drawings.{MayShare, HasWays, IsCrossingFree, IsDrawing}
 use Rattle.drawing_check.specs.declared.span.Extent.{Extent}
 use Rattle.drawing_check.specs.declared.covered.Covered.{Covered}
-use Rattle.drawing_check.specs.Spans.{IsInside, IsInsideBut, IsPointBefore, IsLeastPoint}
+use Rattle.drawing_check.specs.Spans.{IsInside, IsInsideBut}
+use Rattle.drawing_check.specs.Points.{IsLeastPoint}
 use Rattle.drawing_check.specs.CommonEnds.{IsOnlyCommonEnd}
 use Rattle.drawing_check.specs.declared.meeting.Meeting.{Meeting}
-use Rattle.drawing_check.specs.Meetings.{Meets, IsApart, IsPairBefore, IsFirstMeeting, IsOn, IsCovered, IsAllowed, Collides}
+use Rattle.drawing_check.specs.Meetings.{Meets, IsApart, IsPairBefore, IsFirstMeeting}
+use Rattle.drawing_check.specs.Collisions.{IsOn, IsCovered, IsAllowed, Collides}
 use Rattle.drawing_check.specs.Partners.{IsFirstPartner}
 
 module _ (points : List Point) (p q : Covered) (shared : Extent)

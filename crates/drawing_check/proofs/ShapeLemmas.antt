@@ -1,5 +1,5 @@
 -- A plan and its places have one shape, or one first fault, and not both.
-use Rattle.std.proofs.Common.{◌≡◌, ℕ, ◌<◌, ◌≤◌, ℤ, ◌<ℤ◌, ◌≤ℤ◌, List, length, get_or, Result, Ok, Err, Option, Some, None, MatchOption, ◌⊎◌, inl, inr, subst, sym, ap, refl, ◌∙◌, arith, IfOk}
+use Rattle.std.proofs.Common.{◌≡◌, ℕ, ◌<◌, ℤ, List, length, Result, Ok, Err, inl, inr, subst, sym, ap, ◌∙◌, arith, IfOk}
 use Rattle.std.proofs.lemmas.Int.{ints, by_lt_z}
 use Rattle.std.proofs.Props.{props}
 use Rattle.std.proofs.lemmas.List.{ext_get_or}
@@ -15,13 +15,13 @@ use Rattle.compact_types.specs.declared.refusal.Refusal.TheVariants.{Fault, NoMe
 use Rattle.compact_types.specs.Lookups.{way_at, EndsAreVertices}
 use Rattle.compact_types.specs.Refusals.{Gives, IfFault}
 use Rattle.compact_types.specs.Ways.{HasWay}
-use Rattle.compact_types.specs.Drawings.{begin_of, end_of, IsDrawing, HasWays, IsCrossingFree}
-use Rattle.compact_types.specs.Connected.{IsJoined, IsConnected}
+use Rattle.compact_types.specs.Drawings.{begin_of, end_of, IsCrossingFree}
+use Rattle.compact_types.specs.Connected.{IsConnected}
 use Rattle.drawing_check.specs.declared.fault.ShapeFault.{ShapeFault}
 use Rattle.drawing_check.specs.declared.fault.ShapeFault.TheVariants.{ZeroPiece, Slanted, Disconnected, Meeting}
 use Rattle.drawing_check.specs.Courses.{HasNoLength, IsSlanted, AllHaveWays, AreWays}
-use Rattle.drawing_check.specs.Spans.{IsPointBefore, IsLeastPoint}
-use Rattle.drawing_check.specs.Meetings.{Meets, IsApart, IsFirstMeeting, IsPairBefore}
+use Rattle.drawing_check.specs.Points.{IsPointBefore, IsLeastPoint}
+use Rattle.drawing_check.specs.Meetings.{Meets, IsApart, IsFirstMeeting}
 use Rattle.drawing_check.specs.Faults.{IsFirst, IsFirstApart, FirstShapeFault}
 use Rattle.drawing_check.specs.Shapes.{IsShapeOf}
 use Rattle.drawing_check.proofs.SpanLemmas.{same_point}

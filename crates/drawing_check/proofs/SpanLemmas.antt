@@ -1,11 +1,12 @@
 -- The least points of an extent.
-use Rattle.std.proofs.Common.{MatchOption, subst, ◌≡◌, ℤ, pos, ◌+ℤ◌, ◌≤ℤ◌, ◌<ℤ◌, Option, Some, None, ap, ◌∙◌, sym, inl, inr, ◌⊎◌, arith, Bool, true, false, ◌&&◌, int_eq}
+use Rattle.std.proofs.Common.{MatchOption, subst, ◌≡◌, ℤ, pos, ◌+ℤ◌, ◌≤ℤ◌, ◌<ℤ◌, Option, Some, None, ap, ◌∙◌, sym, inl, inr, arith, Bool, true, false, ◌&&◌, int_eq}
 use Rattle.std.proofs.lemmas.Int.{ints}
 use Rattle.std.proofs.lemmas.Bool.{and_parts}
 use Rattle.std.proofs.lemmas.Bool.Decides.{Decides-int_eq}
 use Rattle.compact_types.specs.declared.places.Point.{Point}
 use Rattle.drawing_check.specs.declared.span.Extent.{Extent}
-use Rattle.drawing_check.specs.Spans.{IsInside, IsInsideBut, IsPointBefore, IsLeastPoint}
+use Rattle.drawing_check.specs.Spans.{IsInside, IsInsideBut}
+use Rattle.drawing_check.specs.Points.{IsPointBefore, IsLeastPoint}
 
 -- two points with the same coordinates
 pub same_point : (a b : Point) → a.x ≡ b.x → a.y ≡ b.y → a ≡ b

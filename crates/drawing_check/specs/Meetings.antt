@@ -1,14 +1,10 @@
 -- Where two pieces meet that may not.
-use Rattle.std.specs.Prelude.{◌≡◌, ℕ, ◌<◌, ℤ, List, length, ◌⊎◌}
+use Rattle.std.specs.Prelude.{◌≡◌, ℕ, ◌<◌, length, ◌⊎◌}
 use Rattle.compact_types.specs.declared.places.Point.{Point}
 use Rattle.compact_types.specs.declared.places.Places.{Places}
-use Rattle.compact_types.specs.declared.plan.Piece.{Piece}
 use Rattle.compact_types.specs.declared.plan.Plan.{Plan}
-use Rattle.compact_types.specs.Lookups.{place, IsEnd, HaveSameEnds}
-use Rattle.compact_types.specs.Segments.{OnSegment}
 use Rattle.compact_types.specs.Drawings.{OnPiece, MayShare}
-use Rattle.drawing_check.specs.Spans.{IsLeastPoint, IsInside}
-use Rattle.drawing_check.specs.declared.covered.Covered.{Covered}
+use Rattle.drawing_check.specs.Points.{IsLeastPoint}
 
 -- the point z lies on the pieces i and j, which may not share it
 pub record Meets (plan : Plan) (places : Places) (i j : ℕ) (z : Point) : Type 0 where
@@ -30,21 +26,3 @@ pub record IsFirstMeeting (plan : Plan) (places : Places) (p q : ℕ) (z : Point
   pub in_plan : q < length plan.pieces
   pub least : IsLeastPoint (Meets plan places p q) z
   pub first : (i j : ℕ) → i < j → j < length plan.pieces → IsPairBefore i j p q → (w : Point) → Meets plan places i j w → ⊥
-
--- the point lies on the piece, where its ends have these places
-abbrev pub IsOn : List Point → Piece → Point → Type 0
-IsOn points piece z = OnSegment (place points piece.from) (place points piece.to) z
-
--- the points of the piece are those of its extent
-abbrev pub IsCovered : List Point → Covered → Type 0
-IsCovered points covered =
-    (z : Point) → (IsOn points covered.piece z → IsInside covered.extent z) × (IsInside covered.extent z → IsOn points covered.piece z)
-
--- the pieces may share z, where their ends have these places
-abbrev pub IsAllowed : List Point → Piece → Piece → Point → Type 0
-IsAllowed points p q z =
-    ((vertex : ℕ) × IsEnd vertex p × IsEnd vertex q × (place points vertex ≡ z)) × (HaveSameEnds p q → ⊥)
-
--- the point z lies on both pieces, which may not share it
-abbrev pub Collides : List Point → Piece → Piece → Point → Type 0
-Collides points p q z = IsOn points p z × IsOn points q z × (IsAllowed points p q z → ⊥)

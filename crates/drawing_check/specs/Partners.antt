@@ -3,7 +3,7 @@ use Rattle.std.specs.Prelude.{◌≡◌, ℕ, ◌<◌, length}
 use Rattle.compact_types.specs.declared.places.Places.{Places}
 use Rattle.compact_types.specs.declared.plan.Plan.{Plan}
 use Rattle.drawing_check.specs.declared.meeting.Meeting.{Meeting}
-use Rattle.drawing_check.specs.Spans.{IsLeastPoint}
+use Rattle.drawing_check.specs.Points.{IsLeastPoint}
 use Rattle.drawing_check.specs.Meetings.{Meets, IsApart}
 
 -- of all pieces after p the second of the meeting is the first that meets p

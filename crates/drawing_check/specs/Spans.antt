@@ -1,5 +1,5 @@
 -- Runs of numbers along one axis, and the points whose coordinates lie in two of them.
-use Rattle.std.specs.Prelude.{◌≡◌, ℤ, ◌≤ℤ◌, ◌<ℤ◌, Option, Some, ◌⊎◌}
+use Rattle.std.specs.Prelude.{◌≡◌, ℤ, ◌≤ℤ◌, Option, Some}
 use Rattle.compact_types.specs.declared.places.Point.{Point}
 use Rattle.drawing_check.specs.declared.span.Span.{Span}
 use Rattle.drawing_check.specs.declared.span.Extent.{Extent}
@@ -11,14 +11,6 @@ IsIn span z = (span.low ≤ℤ z) × (z ≤ℤ span.high)
 -- both coordinates of the point lie in their spans
 abbrev pub IsInside : Extent → Point → Type 0
 IsInside extent z = IsIn extent.x z.x × IsIn extent.y z.y
-
--- the point w comes before z: its x is less, or equal with the lesser y
-abbrev pub IsPointBefore : Point → Point → Type 0
-IsPointBefore w z = (w.x <ℤ z.x) ⊎ ((w.x ≡ z.x) × (w.y <ℤ z.y))
-
--- z is the least point, by x and then y, of which P holds
-abbrev pub IsLeastPoint : (Point → Type 0) → Point → Type 0
-IsLeastPoint P z = P z × ((w : Point) → P w → IsPointBefore w z → ⊥)
 
 -- the point is inside the extent and is not the excepted one
 abbrev pub IsInsideBut : Option Point → Extent → Point → Type 0

@@ -1,7 +1,7 @@
 ghost use Rattle.std.specs.Prelude.{◌≡◌, ◌<◌, length, MatchOption, ◌↔◌, Some};
 ghost use Rattle.compact_types.specs.declared.places.Point.{Point as AnyPoint};
-ghost use Rattle.drawing_check.specs.Spans.{IsLeastPoint};
-ghost use Rattle.drawing_check.specs.Meetings.{IsOn, IsCovered, IsAllowed, Collides};
+ghost use Rattle.drawing_check.specs.Points.{IsLeastPoint};
+ghost use Rattle.drawing_check.specs.Collisions.{IsOn, IsCovered, IsAllowed, Collides};
 
 use crate::common_end::only_common_end;
 use crate::span::{Extent, common_extent, extent_between, is_empty, least_point};

@@ -1,7 +1,8 @@
 ghost use Rattle.std.specs.Prelude.{◌≡◌, ◌↔◌, ℤ, MatchBool, MatchOption, Some, ◌≤ℤ◌};
 ghost use Rattle.compact_types.specs.declared.places.Point.{Point as AnyPoint};
 ghost use Rattle.compact_types.specs.Segments.{IsBetween, OnSegment};
-ghost use Rattle.drawing_check.specs.Spans.{IsIn, IsInside, IsInsideBut, IsLeastPoint};
+ghost use Rattle.drawing_check.specs.Spans.{IsIn, IsInside, IsInsideBut};
+ghost use Rattle.drawing_check.specs.Points.{IsLeastPoint};
 
 use compact_types::places::Point;
 

@@ -1,11 +1,9 @@
-use Rattle.std.proofs.Common.{◌≡◌, Ok, Err, sym, rules}
+use Rattle.std.proofs.Common.{Ok, Err, rules}
 use Rattle.std.proofs.lemmas.Int.{to_z-of_z}
 use mir.Syntax.{w64}
 use mir.Val.{SFits}
 use Rattle.compact_types.specs.declared.refusal.Refusal.TheVariants.{Fault}
-use Rattle.compact_types.specs.Connected.{IsConnected}
-use Rattle.drawing_check.specs.declared.fault.ShapeFault.TheVariants.{ZeroPiece, Disconnected, Meeting}
-use Rattle.drawing_check.specs.Faults.{IsFirstApart}
+use Rattle.drawing_check.specs.declared.fault.ShapeFault.TheVariants.{ZeroPiece, Meeting}
 use Rattle.drawing_check.proofs.ShapeLemmas.{shape_of, the_shape, the_fault, ways_found, shape_from_parts}
 use Rattle.drawing_check.proofs.checking.check.Goals as goal
 

@@ -1,4 +1,4 @@
-use Rattle.std.proofs.Common.{◌≡◌, Some, refl}
+use Rattle.std.proofs.Common.{refl}
 use Rattle.drawing_check.proofs.MeetingLemmas.{allowed_from_end, nothing_allowed}
 use Rattle.drawing_check.proofs.covered.allowed_point.Goals as goal
 

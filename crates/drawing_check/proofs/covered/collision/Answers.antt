@@ -1,4 +1,3 @@
-use Rattle.std.proofs.Common.{rules}
 use Rattle.drawing_check.proofs.MeetingLemmas.{collision_from_extents}
 use Rattle.drawing_check.proofs.covered.collision.Goals as goal
 

@@ -1,6 +1,5 @@
-use Rattle.std.proofs.Common.{◌≡◌, ℕ, ◌<◌, ◌≤◌, length, slice_index, set, sym, ◌∙◌, arith}
+use Rattle.std.proofs.Common.{◌<◌, ◌≤◌, length, slice_index, sym, ◌∙◌, arith}
 use Rattle.std.proofs.Math.ListN.{length-set}
-use Rattle.drawing_check.specs.Groups.{IsLabelling}
 use Rattle.drawing_check.proofs.GroupLemmas.{down_after, labelling_halved}
 use Rattle.drawing_check.proofs.joined.least_of.Goals as goal
 

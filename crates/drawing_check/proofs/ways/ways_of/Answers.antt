@@ -1,4 +1,4 @@
-use Rattle.std.proofs.Common.{ℕ, ◌<◌, arith, ap, length, sym, subst}
+use Rattle.std.proofs.Common.{◌<◌, arith, ap, length}
 use Rattle.compact_types.specs.declared.places.Point.{Point}
 use Rattle.compact_types.specs.declared.plan.Way.{Way}
 use Rattle.compact_types.specs.Ways.{HasWay}
