@@ -9,8 +9,6 @@ pub mod Fronts
 pub mod Keys
 pub mod Opened
 pub mod PartLemmas
-pub mod PlainTexts
-pub mod Plains
 pub mod Runs
 pub mod ScaleLemmas
 pub mod Scaling

@@ -3,7 +3,6 @@ pub mod Faults
 pub mod NumeralKinds
 pub mod Numerals
 pub mod Scaling
-pub mod Plains
 pub mod Reading
 pub mod Texts
 pub mod Trees
