@@ -26,7 +26,7 @@ by_kind true real kind h = (refl, h)
 by_kind false real kind h = cc
 
 -- a word that has a kind has parts
-parts-kind_of : (word : List ℕ) (kind : NumeralKind) → kind_of word ≡ Some kind → HasParts word (parts_of word)
+pub parts-kind_of : (word : List ℕ) (kind : NumeralKind) → kind_of word ≡ Some kind → HasParts word (parts_of word)
 unfolding kind_of
 parts-kind_of word kind h =
     parts_from_tests word (by_kind (has_digit (parts_of word) && is_exponent (parts_of word).exponent) (is_real (parts_of word)) kind h).0

@@ -1,5 +1,5 @@
 -- The front of a text, up to a place where a key may stand, with what was read of it.
-use Rattle.std.proofs.Common.{◌≡◌, ℕ, suc, ◌+◌, ◌<◌, true, false, List, [], ◌∷◌, ◌++◌, length, refl, sym, ◌∙◌, ap, subst, arith, length-append, append_assoc}
+use Rattle.std.proofs.Common.{◌≡◌, ℕ, suc, ◌+◌, ◌<◌, ◌≤◌, Option, None, Some, true, false, List, [], ◌∷◌, ◌++◌, length, refl, sym, ◌∙◌, ap, subst, arith, length-append, append_assoc}
 use Rattle.gml_text.specs.declared.reader.Parent.{Parent}
 use Rattle.gml_text.specs.declared.tree.Tree.{roll-Tree}
 use Rattle.gml_text.specs.declared.tree.Pair.{Pair}
@@ -7,6 +7,7 @@ use Rattle.gml_text.specs.declared.tree.Value.{Value}
 use Rattle.gml_text.specs.declared.tree.Value.TheVariants.{Inner}
 use Rattle.gml_text.specs.Bytes.{is_space, is_key, are_spaces, lacks, begins_with_word, ends_in_word}
 use Rattle.gml_text.specs.Texts.{most_depth, Pairs, OnePair, HasValue, no_more, a_space, a_comment, one_more, a_pair, a_list}
+use Rattle.gml_text.specs.Faults.{KeyPlace, at_the_top, in_a_list}
 use Rattle.gml_text.specs.Reading.{closed}
 use Rattle.gml_text.proofs.Words.{ends_in_word-append}
 
@@ -24,6 +25,21 @@ Opened-at {depth} {parents} {pairs} a b e h = subst (λ text. Opened depth text 
 pub Opened-depth : {depth : ℕ} {text : List ℕ} {parents : List Parent} {pairs : List Pair} → Opened depth text parents pairs → length parents ≡ depth
 Opened-depth (outside text pairs h) = refl
 Opened-depth (within depth front parents before key gap inside pairs outer ends is_one spaces room h) = ap suc (Opened-depth outer)
+
+pub Opened-most : {depth : ℕ} {text : List ℕ} {parents : List Parent} {pairs : List Pair} → Opened depth text parents pairs → depth ≤ most_depth
+Opened-most (outside text pairs h) = omega arith
+Opened-most (within depth front parents before key gap inside pairs outer ends is_one spaces room h) = room
+
+-- where the innermost open `[` stands
+abbrev pub innermost : List Parent → Option ℕ
+innermost [] = None
+innermost (parent ∷ parents) = Some parent.at
+
+pub key_place : {depth : ℕ} {text : List ℕ} {parents : List Parent} {pairs : List Pair} → Opened depth text parents pairs →
+    KeyPlace depth text (innermost parents)
+key_place (outside text pairs h) = at_the_top text pairs h
+key_place (within depth front parents before key gap inside pairs outer ends is_one spaces room h) =
+    in_a_list depth front (innermost parents) key gap inside pairs (key_place outer) ends is_one spaces room h
 
 -- the pairs of the innermost list go on
 pub grow : {depth : ℕ} {text : List ℕ} {parents : List Parent} {pairs : List Pair} → Opened depth text parents pairs →

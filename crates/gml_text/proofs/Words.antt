@@ -143,3 +143,9 @@ gap-no_word [] text spaces apart = go (begins_with_word text) refl
     go : (test : Bool) → begins_with_word text ≡ test → begins is_word_byte text ≡ false
     go true e = absurd (apart e refl)
     go false e = begins-word text ∙ e
+
+pub ends-spaces : (gap : List ℕ) → are_spaces gap ≡ true → ends_in_word gap ≡ false
+ends-spaces [] h = refl
+ends-spaces (b ∷ gap) h =
+    ap (λ before. ends_in_word_after before gap) (is_space-no_word b (and-left (is_space b) (are_spaces gap) h))
+    ∙ ends-spaces gap (and-right (is_space b) (are_spaces gap) h)

@@ -80,8 +80,8 @@ abbrev pub read_string : State → List ℕ → ℕ → List ℕ → Step
 read_string s key at text = read_inside s key at (drop 1 text) (prefix_len (λ b. not (b == 34)) (drop 1 text))
 
 -- a `[`
-abbrev pub open_list : State → List ℕ → ℕ → Step
-open_list s key at =
+abbrev pub begin_list : State → List ℕ → ℕ → Step
+begin_list s key at =
     if nat_le most_depth (length s.parents) then fault_at at TooDeep
     else goes_on (record { parents = record { before = s.pairs; key = key; at = at } ∷ s.parents; pairs = []; at = at + 1 })
 
@@ -103,7 +103,7 @@ abbrev pub read_value_from : Option ℕ → State → List ℕ → ℕ → List 
 read_value_from None s key at text = fault_at at BadValue
 read_value_from (Some b) s key at text =
     if b == 34 then read_string s key at text
-    else if b == 91 then open_list s key at
+    else if b == 91 then begin_list s key at
     else if begins_numeral b then read_numeral s key at text
     else fault_at at BadValue
 

@@ -1,7 +1,7 @@
 ghost use Rattle.std.specs.Prelude.{◌≡◌, ◌+◌, ◌<◌, ◌≤◌, length, IfOk, slice_index};
 ghost use Rattle.std.specs.List.{slice_get};
 ghost use Rattle.compact_types.specs.Refusals.{Gives};
-ghost use Rattle.gml_text.specs.Reading.{finish, IsStep, IsForward, state_of, with_pair, step_of, after_comment, close_list, read_pair, read_value, read_string, read_numeral, open_list};
+ghost use Rattle.gml_text.specs.Reading.{finish, IsStep, IsForward, state_of, with_pair, step_of, after_comment, close_list, read_pair, read_value, read_string, read_numeral, begin_list};
 
 use crate::bytes::{begins_numeral, is_key, is_space, length_before, space_length, word_length};
 use crate::fault::{GmlFault, GmlKind};
@@ -161,7 +161,7 @@ fn string(
 
 fn open(alloc: Global, reader: Reader, key: &[u8], at: u32) -> Result<Reader, Refusal<GmlFault>>
     requires { at < 67108864 }
-    ensures step { IsStep result (open_list (state_of reader) key.now at) }
+    ensures step { IsStep result (begin_list (state_of reader) key.now at) }
     ensures forward { IsForward result (at + 1) (at + 1) }
 {
     let mut parents = reader.parents;
