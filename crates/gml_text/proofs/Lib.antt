@@ -1,3 +1,4 @@
+pub mod Alike
 pub mod ByteFacts
 pub mod Complete
 pub mod Digits
