@@ -1,0 +1,10 @@
+ghost use Rattle.std.specs.Prelude.{◌≡◌, true};
+ghost use Rattle.gml_text.specs.declared.tree.Tree.{Tree};
+ghost use Rattle.gml_text.specs.Trees.{is_within_grammar};
+ghost use Rattle.gml_print.specs.Laws.{ReadsBack};
+
+/// The law of `print_tree`: what is printed of a tree within the grammar is read as a tree that differs at most in
+/// where its values stand, and as no other.
+pub fn printed_text_has_the_tree()
+    ensures { (tree : Tree) → is_within_grammar tree ≡ true → ReadsBack tree }
+{}
