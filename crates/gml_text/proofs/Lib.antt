@@ -5,6 +5,7 @@ pub mod Digits
 pub mod EndZeros
 pub mod FirstFaults
 pub mod Fronts
+pub mod Induction
 pub mod Keys
 pub mod NumeralLaws
 pub mod NumeralParts
