@@ -1,6 +1,6 @@
 -- What is printed is read as an alike tree.
-use Rattle.std.proofs.Common.{◌≡◌, ℕ, zero, suc, ◌+◌, ◌<◌, Bool, true, false, ltb, List, [], ◌∷◌, ◌++◌, ◌&&◌, length, map, Option, None, Some, refl, sym, ◌∙◌, ap, subst, arith, append_assoc}
-use Rattle.std.specs.List.{flat_map, list_all}
+use Rattle.std.proofs.Common.{◌≡◌, ℕ, zero, suc, ◌+◌, ◌<◌, true, false, ltb, List, [], ◌∷◌, ◌++◌, length, map, Option, None, Some, refl, sym, ◌∙◌, ap, subst, arith, append_assoc}
+use Rattle.std.specs.List.{list_all}
 use Rattle.std.proofs.lemmas.List.{append-nil}
 use Rattle.std.proofs.lemmas.Bool.Decides.{nat_tests}
 use Rattle.gml_text.specs.declared.number.NumeralKind.{NumeralKind}
@@ -9,9 +9,9 @@ use Rattle.gml_text.specs.declared.tree.Tree.{Tree, out-Tree, roll-Tree, out-rol
 use Rattle.gml_text.specs.declared.tree.Pair.{Pair}
 use Rattle.gml_text.specs.declared.tree.Value.{Value}
 use Rattle.gml_text.specs.declared.tree.Value.TheVariants.{Whole, Real, Text, Inner}
-use Rattle.gml_text.specs.Bytes.{is_space, are_spaces, is_key, lacks, ends_in_word, begins_with_word}
+use Rattle.gml_text.specs.Bytes.{is_space, are_spaces, is_key, ends_in_word}
 use Rattle.gml_text.specs.NumeralKinds.{kind_of}
-use Rattle.gml_text.specs.Texts.{most_depth, Pairs, OnePair, HasValue, no_more, a_space, one_more, a_pair, a_whole_numeral, a_real_numeral, a_string, a_list, IsText, to_the_end, Spells}
+use Rattle.gml_text.specs.Texts.{Pairs, HasValue, no_more, a_space, one_more, a_pair, a_whole_numeral, a_real_numeral, a_string, a_list, IsText, to_the_end, Spells}
 use Rattle.gml_text.specs.Trees.{is_within, is_within_grammar, is_real_kind}
 use Rattle.gml_text.specs.Alike.{IsAlike}
 use Rattle.gml_text.proofs.Alike.{bare_value, bare_pair, IsAlike-pairs}
@@ -19,15 +19,12 @@ use Rattle.gml_text.proofs.ByteFacts.{is_space-no_word}
 use Rattle.gml_text.proofs.Fronts.{and-left, and-right}
 use Rattle.gml_text.proofs.NumeralLaws.{real-kind_of}
 use Rattle.gml_text.proofs.OneAnswer.{one_answer}
-use Rattle.gml_text.proofs.Within.{value_within, pair_within, is_within-pairs}
+use Rattle.gml_text.proofs.Within.{value_within, pair_within, is_within-pairs, is_within_grammar-spelled}
 use Rattle.gml_text.proofs.Words.{ends_in_word-append}
-use Rattle.gml_print.specs.Printing.{space, line_feed, indentation, quoted, bracketed, line, printed, printed_at, value_text, pair_text}
+use Rattle.gml_print.specs.Printing.{space, line_feed, indentation, bracketed, line, printed, printed_at, value_text, pair_text}
 use Rattle.gml_print.specs.Laws.{ReadsBack}
+use Rattle.gml_print.proofs.Alike.{lines_of, printed-alike}
 use Rattle.gml_print.proofs.Printed.{printed_at_lines}
-
--- the lines of pairs at a depth
-abbrev lines_of : ℕ → List Pair → List ℕ
-lines_of depth pairs = flat_map (λ pair. pair_text pair depth) pairs
 
 -- ---- white space
 
@@ -188,5 +185,7 @@ reads_back tree within =
       read = read;
       alike = alike;
       spelled = spelled;
+      within = is_within_grammar-spelled (printed tree) read spelled;
+      again = sym (printed-alike tree read alike);
       only = λ other h. subst (IsAlike tree) ((one_answer (printed tree)).one_tree read other spelled h) alike;
     }

@@ -1,5 +1,5 @@
 -- What holds of each value because it holds of the values in its list.
-use Rattle.std.proofs.Common.{◌≡◌, ℕ, List, [], ◌∷◌, sym, ◌∙◌, ap, subst}
+use Rattle.std.proofs.Common.{ℕ, List, [], ◌∷◌, sym, ◌∙◌, ap, subst}
 use Rattle.gml_text.specs.declared.tree.Tree.{Tree, out-Tree, Tree', outs-Tree', Row_of-Pair, end_of-Pair, more_of-Pair, items-the_row-Pair, items_shown-the_row-Pair-0}
 use Rattle.gml_text.specs.declared.tree.Pair.{Pair}
 use Rattle.gml_text.specs.declared.tree.Value.{Value}
