@@ -4,6 +4,7 @@
 //! value of its number, and on `put_value`, a tree with one value changed.
 #![tactic(auto)]
 
+pub mod law;
 pub mod number;
 pub mod place;
 pub mod print;

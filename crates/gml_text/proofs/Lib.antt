@@ -1,12 +1,15 @@
+pub mod Alike
 pub mod ByteFacts
 pub mod Complete
 pub mod Digits
 pub mod EndZeros
-pub mod NumeralLaws
-pub mod NumeralParts
 pub mod FirstFaults
 pub mod Fronts
+pub mod Induction
 pub mod Keys
+pub mod NumeralLaws
+pub mod NumeralParts
+pub mod OneAnswer
 pub mod Opened
 pub mod PartLemmas
 pub mod Runs
@@ -16,6 +19,5 @@ pub mod SignedThousandths
 pub mod Sound
 pub mod ThousandthsLemmas
 pub mod Tokens
-pub mod Words
-pub mod OneAnswer
 pub mod Within
+pub mod Words

@@ -1,8 +1,9 @@
+pub mod Alike
 pub mod Bytes
 pub mod Faults
 pub mod NumeralKinds
 pub mod Numerals
-pub mod Scaling
 pub mod Reading
+pub mod Scaling
 pub mod Texts
 pub mod Trees
