@@ -164,3 +164,6 @@ signed_value minus digits h = refl
 pub value_by_parts : (word : List ℕ) (n : Numeral) → HasParts word n → HasNoPoint n → value_of_whole word ≡ whole_value n
 value_by_parts word n p k =
     rw (p.written, whole_text n k) (signed_value n.sign n.whole (digits_no_sign n.whole p.numeral.whole))
+
+pub whole_of_kind : (word : List ℕ) → kind_of word ≡ Some Whole → is_whole_numeral word ≡ true
+whole_of_kind word h = whole-kind_of word h

@@ -105,3 +105,29 @@ value_of_whole (b ∷ bytes) =
     if b == 43 then pos (digits_value bytes)
     else if b == 45 then pos 0 -ℤ pos (digits_value bytes)
     else pos (digits_value (b ∷ bytes))
+
+-- the digits before the exponent as one whole number, with the sign of the numeral
+abbrev pub mantissa : Numeral → ℤ
+mantissa n = with_sign n.sign (digits_value (n.whole ++ fraction_digits n.fraction))
+
+-- the number that the exponent writes, 0 where there is none
+abbrev pub exponent_value : Option Exponent → ℤ
+exponent_value None = pos 0
+exponent_value (Some e) = with_sign e.sign (digits_value e.digits)
+
+-- the value of a numeral is its mantissa times ten to this power
+abbrev pub power_of_ten : Numeral → ℤ
+power_of_ten n = exponent_value n.exponent -ℤ pos (length (fraction_digits n.fraction))
+
+-- t is m times ten to the power e
+abbrev pub IsTimesTen : ℤ → ℤ → ℤ → Type 0
+IsTimesTen m (pos e) t = t ≡ m *ℤ pos (10 ^ e)
+IsTimesTen m (negsuc e) t = t *ℤ pos (10 ^ (e + 1)) ≡ m
+
+-- t is 1,000 times the value of the numeral
+abbrev pub IsThousandths : Numeral → ℤ → Type 0
+IsThousandths n t = IsTimesTen (mantissa n) (power_of_ten n +ℤ pos 3) t
+
+-- the greatest magnitude of a number in thousandths
+abbrev pub most_thousandths : ℕ
+most_thousandths = 10000000000000

@@ -1,16 +1,53 @@
-ghost use Rattle.std.specs.Prelude.{◌≡◌, ◌↔◌, ℕ, List, true, if◌then◌else◌, nat_lt, is_some, FitsSigned, ◌+◌, ◌<◌, ◌≤◌, ◌^◌, length};
+ghost use Rattle.std.specs.Prelude.{◌≡◌, ◌↔◌, ℕ, ℤ, unsigned_abs, List, true, if◌then◌else◌, nat_lt, is_some, IfOk, FitsSigned, ◌+◌, ◌<◌, ◌≤◌, ◌^◌, length};
 ghost use Rattle.std.specs.Int.{w64};
 ghost use Rattle.std.specs.List.{list_all, prefix_len};
 ghost use Rattle.std.specs.Option.{SomeIff};
 ghost use Rattle.gml_text.specs.Bytes.{is_digit};
 ghost use Rattle.gml_text.specs.NumeralKinds.{HasTheParts, is_numeral, kind_of, is_exponent, exponent_of, is_minus, sign_of, after_sign, front_digits, after_digits, fraction_of, after_fraction};
-ghost use Rattle.gml_text.specs.Numerals.{is_whole_numeral, value_of_whole, digits_value, are_digits, fraction_digits, Numeral, HasParts, HasNoPoint, whole_value};
+ghost use Rattle.gml_text.specs.Numerals.{is_whole_numeral, value_of_whole, digits_value, are_digits, fraction_digits, Numeral, HasParts, HasNoPoint, whole_value, IsThousandths, most_thousandths};
+ghost use Rattle.gml_text.specs.Scaling.{signed_answer};
+
+mod digits;
+mod parts;
+mod scale;
+
+use digits::magnitude;
+use parts::{have_digit, is_exponent, parts_of};
+use scale::thousandths_of;
 
 /// Whether a numeral is written without a point and an exponent, or with one of them.
-#[derive(Clone, Copy, Debug)]
+#[derive(Clone, Copy, Debug, PartialEq, Eq)]
 pub enum NumeralKind {
     Whole,
     Real,
+}
+
+/// Why a numeral is no number of thousandths.
+#[derive(Clone, Copy, Debug, PartialEq, Eq)]
+pub enum NumberFault {
+    /// A thousand times its value is not whole.
+    TooFine,
+    /// It is, and the value's magnitude is above 10,000,000,000.
+    OutOfRange,
+}
+
+/// A thousand times the value of a numeral.
+pub fn thousandths(lexeme: &[u8]) -> Result<i64, NumberFault>
+    requires { is_numeral lexeme.now ≡ true }
+    ensures value { (n : Numeral) → HasParts lexeme.now n → (t : ℤ) → (result ≡ Ok t) ↔ (IsThousandths n t × (unsigned_abs t ≤ most_thousandths)) }
+    ensures too_fine { (n : Numeral) → HasParts lexeme.now n → (result ≡ Err NumberFault.TooFine) ↔ ((t : ℤ) → IsThousandths n t → ⊥) }
+    ensures out_of_range { (n : Numeral) → HasParts lexeme.now n → (result ≡ Err NumberFault.OutOfRange) ↔ ((t : ℤ) × IsThousandths n t × (most_thousandths < unsigned_abs t)) }
+{
+    let parts = parts_of(lexeme);
+    with_sign(parts.minus, thousandths_of(parts.whole, parts.fraction, parts.exponent))
+}
+
+fn with_sign(minus: bool, magnitude: Result<u64, NumberFault>) -> Result<i64, NumberFault>
+    requires { IfOk magnitude (λ n. n ≤ most_thousandths) }
+    ensures { result ≡ signed_answer minus magnitude }
+{
+    let magnitude = magnitude? as i64;
+    Ok(if minus { -magnitude } else { magnitude })
 }
 
 /// The value of a whole numeral; `None` exactly where it is outside `i64`.
@@ -20,90 +57,10 @@ pub fn whole(lexeme: &[u8]) -> Option<i64>
 {
     let zero: i64 = 0;
     match lexeme {
-        [b'-', digits @ ..] => zero.checked_sub_unsigned(magnitude(digits)?),
-        [b'+', digits @ ..] => zero.checked_add_unsigned(magnitude(digits)?),
-        digits => zero.checked_add_unsigned(magnitude(digits)?),
+        [b'-', digits @ ..] => zero.checked_sub_unsigned(magnitude(0, digits)?),
+        [b'+', digits @ ..] => zero.checked_add_unsigned(magnitude(0, digits)?),
+        digits => zero.checked_add_unsigned(magnitude(0, digits)?),
     }
-}
-
-/// The number that the digits write; `None` exactly where it is outside `u64`.
-fn magnitude(digits: &[u8]) -> Option<u64>
-    requires { list_all is_digit digits.now ≡ true }
-    ensures { SomeIff result (digits_value digits.now < 2 ^ 64) (digits_value digits.now) }
-{
-    let mut value: u64 = 0;
-    for digit in digits {
-        value = value.checked_mul(10)?.checked_add(u64::from(*digit - b'0'))?;
-    }
-    Some(value)
-}
-
-/// A word cut into the parts of a numeral, whether or not it is one.
-#[derive(Drop)]
-struct Parts<'a> {
-    minus: bool,
-    whole: &'a [u8],
-    point: bool,
-    fraction: &'a [u8],
-    /// What follows the fraction: the exponent with its letter, where the word is a numeral.
-    exponent: &'a [u8],
-}
-
-#[tactic(auto, unfolding(crate::specs::NumeralKinds::parts_of))]
-fn parts_of(word: &[u8]) -> Parts<'_>
-    ensures { HasTheParts word.now result.minus result.whole.now result.point result.fraction.now result.exponent.now }
-{
-    let minus = begins_minus(word);
-    let (whole, rest) = split_digits(after_sign(word));
-    let (point, fraction, exponent) = split_fraction(rest);
-    Parts { minus, whole, point, fraction, exponent }
-}
-
-/// Whether there is a point at the front, the digits after it, and what follows them.
-fn split_fraction(text: &[u8]) -> (bool, &[u8], &[u8])
-    ensures point { result.0 ≡ is_some (fraction_of text.now) }
-    ensures digits { result.1.now ≡ fraction_digits (fraction_of text.now) }
-    ensures rest { result.2.now ≡ after_fraction text.now }
-{
-    match text {
-        [b'.', rest @ ..] => {
-            let (fraction, exponent) = split_digits(rest);
-            (true, fraction, exponent)
-        }
-        _ => (false, &[], text),
-    }
-}
-
-fn begins_minus(word: &[u8]) -> bool
-    ensures { result ≡ is_minus (sign_of word.now) }
-{
-    matches!(word, [b'-', ..])
-}
-
-/// What follows the sign at the front, if there is one.
-fn after_sign(word: &[u8]) -> &[u8]
-    ensures { result.now ≡ after_sign word.now }
-{
-    match word {
-        [b'+' | b'-', rest @ ..] => rest,
-        _ => word,
-    }
-}
-
-/// The digits at the front, and what follows them.
-fn split_digits(text: &[u8]) -> (&[u8], &[u8])
-    ensures digits { result.0.now ≡ front_digits text.now }
-    ensures rest { result.1.now ≡ after_digits text.now }
-{
-    text.split_at(count_digits(text))
-}
-
-/// How many digits stand at the front.
-fn count_digits(text: &[u8]) -> usize
-    ensures count { result ≡ prefix_len is_digit text.now }
-    ensures within { result ≤ length text.now }
-{
-    text.iter().take_while(|b| b.is_ascii_digit()).count()
 }
 
 /// Which kind of numeral the word is; `None` where it is none.
@@ -129,37 +86,6 @@ fn kind_from(numeral: bool, real: bool) -> Option<NumeralKind>
     }
 }
 
-fn have_digit(whole: &[u8], fraction: &[u8]) -> bool
-    ensures { result ≡ nat_lt 0 (length whole.now + length fraction.now) }
-{
-    !(whole.is_empty() && fraction.is_empty())
-}
-
-/// Whether the text is an exponent, or empty.
-fn is_exponent(text: &[u8]) -> bool
-    ensures { result ≡ is_exponent (exponent_of text.now) }
-{
-    match text {
-        [] => true,
-        [b'e' | b'E', rest @ ..] => are_digits(after_sign(rest)),
-        _ => false,
-    }
-}
-
-/// Whether there is at least one byte and all are digits.
-#[tactic(auto, using(crate::proofs::PartLemmas::are_digits_cases))]
-fn are_digits(text: &[u8]) -> bool
-    ensures { result ≡ are_digits text.now }
-{
-    !text.is_empty() && all_digits(text)
-}
-
-fn all_digits(text: &[u8]) -> bool
-    ensures { result ≡ list_all is_digit text.now }
-{
-    text.iter().all(|b| b.is_ascii_digit())
-}
-
 /// The two readings of whole numerals agree, by the bytes of the word and by the parts of the numeral; and a word is
 /// a numeral exactly where it has the parts of one.
 pub fn numerals_have_parts()
@@ -168,4 +94,74 @@ pub fn numerals_have_parts()
     ensures numeral { (word : List ℕ) → (is_numeral word ≡ true) ↔ ((n : Numeral) × HasParts word n) }
     ensures only { (word : List ℕ) (m n : Numeral) → HasParts word m → HasParts word n → m ≡ n }
 {
+}
+
+#[cfg(test)]
+mod tests {
+    use super::*;
+
+    fn thousandths_of_word(word: &str) -> Option<Result<i64, NumberFault>> {
+        numeral_kind(word.as_bytes())?;
+        Some(thousandths(word.as_bytes()))
+    }
+
+    #[test]
+    fn gives_thousandths(rt: HostRuntime) {
+        let too_fine = Some(Err(NumberFault::TooFine));
+        let out_of_range = Some(Err(NumberFault::OutOfRange));
+        for (word, want) in [
+            ("1.5E2", Some(Ok(150_000))),
+            ("+7.250", Some(Ok(7_250))),
+            ("-.5", Some(Ok(-500))),
+            ("5.", Some(Ok(5_000))),
+            ("-0", Some(Ok(0))),
+            ("0e999999", Some(Ok(0))),
+            ("0.00e-99999999999999999999", Some(Ok(0))),
+            ("0.1234", too_fine),
+            ("5e-4", too_fine),
+            ("5000e-6", Some(Ok(5))),
+            ("1e-99999999999999999999", too_fine),
+            ("10000000000.0001", too_fine),
+            ("10000000000", Some(Ok(10_000_000_000_000))),
+            ("-100000000000000000000e-10", Some(Ok(-10_000_000_000_000))),
+            ("10000000000.001", out_of_range),
+            ("-10000000000.001", out_of_range),
+            ("1e400", out_of_range),
+            ("1e99999999999999999999", out_of_range),
+            ("99999999999999999999999.", out_of_range),
+            (".", None),
+            ("-", None),
+            ("1e", None),
+            ("1.2.3", None),
+            ("+-1", None),
+        ] {
+            assert_eq!(rt; thousandths_of_word(word), want, "at {word}");
+        }
+    }
+
+    #[tactic(auto, using(crate::proofs::NumeralLaws::whole_of_kind))]
+    fn whole_of_word(word: &str) -> Option<i64> {
+        match numeral_kind(word.as_bytes()) {
+            Some(NumeralKind::Whole) => whole(word.as_bytes()),
+            _ => None,
+        }
+    }
+
+    #[test]
+    fn gives_whole_numbers(rt: HostRuntime) {
+        for (word, want) in [
+            ("0", Some(0)),
+            ("+0042", Some(42)),
+            ("-7", Some(-7)),
+            ("9223372036854775807", Some(i64::MAX)),
+            ("9223372036854775808", None),
+            ("-9223372036854775808", Some(i64::MIN)),
+            ("-9223372036854775809", None),
+            ("00000000000000000000000000000000001", Some(1)),
+            ("99999999999999999999", None),
+            ("1.", None),
+        ] {
+            assert_eq!(rt; whole_of_word(word), want, "at {word}");
+        }
+    }
 }

@@ -1,7 +1,7 @@
 use Rattle.std.specs.Prelude.{nat_lt}
-use Rattle.std.proofs.Common.{◌≡◌, ◌+◌, length, Bool, true, false, cond, ◌&&◌, ◌||◌, Some, None, ap, sym, ◌∙◌, refl, arith}
+use Rattle.std.proofs.Common.{◌≡◌, ◌+◌, length, ◌&&◌, ◌||◌, sym, ◌∙◌, arith}
 use Rattle.std.proofs.lemmas.Grind.{common_steps}
-use Rattle.gml_text.specs.NumeralKinds.{kind_of, is_exponent, exponent_of}
+use Rattle.gml_text.specs.NumeralKinds.{is_exponent, exponent_of}
 use Rattle.gml_text.proofs.PartLemmas.{kind_of_cut}
 use Rattle.gml_text.proofs.number.numeral_kind.Goals as goal
 use Rattle.gml_text.proofs.number.numeral_kind.Goals.{then-have_digit, else-have_digit, then-parts, else-parts}

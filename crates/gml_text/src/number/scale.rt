@@ -1,0 +1,82 @@
+//! Thousandths from the digits of a numeral and the power of ten of its exponent.
+
+ghost use Rattle.std.specs.Prelude.{◌≡◌, true, ◌+◌, ◌-◌, ◌*◌, ◌<◌, ◌≤◌, ◌^◌, ◌++◌, length, min, MatchResult};
+ghost use Rattle.std.specs.List.{list_all};
+ghost use Rattle.gml_text.specs.Bytes.{is_digit};
+ghost use Rattle.gml_text.specs.NumeralKinds.{is_exponent, exponent_of};
+ghost use Rattle.gml_text.specs.Numerals.{digits_value, most_thousandths};
+ghost use Rattle.gml_text.specs.Scaling.{tens_above, tens_below, IsRaisedOrFault, IsKept};
+
+use super::digits::{magnitude, magnitude_of, without_end_zeros};
+use super::parts::{after_sign, begins_minus};
+use super::NumberFault;
+
+/// The greatest magnitude in thousandths, that of 10,000,000,000.
+const MOST: u64 = 10_000_000_000_000;
+
+/// The number that the digits write, times ten to the power three and to that of the exponent.
+pub(crate) fn thousandths_of(whole: &[u8], fraction: &[u8], exponent: &[u8]) -> Result<u64, NumberFault>
+    requires whole { list_all is_digit whole.now ≡ true }
+    requires fraction { list_all is_digit fraction.now ≡ true }
+    requires exponent { is_exponent (exponent_of exponent.now) ≡ true }
+    ensures { IsRaisedOrFault (digits_value (whole.now ++ fraction.now)) (3 + tens_above (exponent_of exponent.now)) (length fraction.now + tens_below (exponent_of exponent.now)) result }
+{
+    let (kept_whole, kept_fraction) = kept_digits(whole, fraction);
+    if kept_whole.is_empty() && kept_fraction.is_empty() {
+        return Ok(0);
+    }
+    let zeros = (whole.len() - kept_whole.len()) as u128 + (fraction.len() - kept_fraction.len()) as u128;
+    let (above, below) = exponent_tens(exponent);
+    let tens = (zeros + 3 + u128::from(above)).checked_sub(fraction.len() as u128 + u128::from(below));
+    let Some(tens) = tens else {
+        return Err(NumberFault::TooFine);
+    };
+    let Some(number) = magnitude_of(kept_whole, kept_fraction) else {
+        return Err(NumberFault::OutOfRange);
+    };
+    raised(number, tens)
+}
+
+/// The digits without the zeros at their end, so that only the last zeros before the point are left out where there
+/// are no others after it.
+fn kept_digits<'a>(whole: &'a [u8], fraction: &'a [u8]) -> (&'a [u8], &'a [u8])
+    requires whole { list_all is_digit whole.now ≡ true }
+    requires fraction { list_all is_digit fraction.now ≡ true }
+    ensures { IsKept whole.now fraction.now result.0.now result.1.now }
+{
+    let kept_fraction = without_end_zeros(fraction);
+    if kept_fraction.is_empty() {
+        (without_end_zeros(whole), kept_fraction)
+    } else {
+        (whole, kept_fraction)
+    }
+}
+
+/// The powers of ten by which the exponent multiplies and divides, none above the greatest `u64`.
+fn exponent_tens(exponent: &[u8]) -> (u64, u64)
+    requires { is_exponent (exponent_of exponent.now) ≡ true }
+    ensures above { result.0 ≡ min (tens_above (exponent_of exponent.now)) (2 ^ 64 - 1) }
+    ensures below { result.1 ≡ min (tens_below (exponent_of exponent.now)) (2 ^ 64 - 1) }
+{
+    match exponent {
+        [_, rest @ ..] => {
+            let size = magnitude(0, after_sign(rest)).unwrap_or(u64::MAX);
+            if begins_minus(rest) { (0, size) } else { (size, 0) }
+        }
+        [] => (0, 0),
+    }
+}
+
+/// The number times ten to a power.
+fn raised(number: u64, tens: u128) -> Result<u64, NumberFault>
+    requires { 0 < number }
+    ensures { MatchResult result (λ t. (t ≡ number * 10 ^ tens) × (t ≤ most_thousandths)) (λ fault. (fault ≡ NumberFault.OutOfRange) × (most_thousandths < number * 10 ^ tens)) }
+{
+    if tens > 13 {
+        return Err(NumberFault::OutOfRange);
+    }
+    match number.checked_mul(10u64.pow(tens as u32)) {
+        Some(product) if product <= MOST => Ok(product),
+        _ => Err(NumberFault::OutOfRange),
+    }
+}
