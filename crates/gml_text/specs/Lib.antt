@@ -1,4 +1,5 @@
 pub mod Bytes
+pub mod Grammar
 pub mod NumeralKinds
 pub mod Numerals
 pub mod Scaling
