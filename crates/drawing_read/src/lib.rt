@@ -6,6 +6,8 @@
 #![tactic(auto)]
 
 pub mod fault;
+mod lookup;
+mod nodes;
 pub mod read;
 pub mod reading;
 pub mod route;

@@ -1,6 +1,6 @@
 -- What holds of every tree that was read from a text: its words are numerals where they should be, and it has no more
 -- pairs than the text has bytes.
-use Rattle.std.specs.Prelude.{ℕ, ◌+◌, ◌≤◌, Bool, true, ◌&&◌, sum_by, ◌≡◌}
+use Rattle.std.specs.Prelude.{ℕ, ◌+◌, ◌≤◌, Bool, true, ◌&&◌, sum, ◌≡◌}
 use Rattle.std.specs.List.{list_all}
 use Rattle.gml_text.specs.declared.tree.Tree.{Tree, Tree-F, fold-Tree}
 use Rattle.gml_text.specs.declared.tree.Pair.{Pair-F}
@@ -36,7 +36,7 @@ abbrev pub pairs_with_value : Pair-F ℕ ℕ ℕ → ℕ
 pairs_with_value pair = pair.value + 1
 
 abbrev pub pairs_in_list : Tree-F ℕ ℕ ℕ → ℕ
-pairs_in_list tree = sum_by (λ pair. pair) tree.pairs
+pairs_in_list tree = sum tree.pairs
 
 -- how many pairs a tree has, at all depths
 abbrev pub pair_count : Tree → ℕ
