@@ -1,8 +1,7 @@
 -- Why a tree is no drawing: the first fault, in the order of their kinds.
-use Rattle.std.specs.Prelude.{◌≡◌, ℕ, ◌+◌, pos, ℤ, Bool, true, false, ◌||◌, List, [], ◌∷◌, ◌++◌, length, take, slice_index_or, Option, None, Some, Result, Ok, Err, if◌then◌else◌, nat_lt, is_none, codes}
-use Rattle.std.specs.List.{position, find, list_any, filter_map, flat_map, reduce, range_with_len}
+use Rattle.std.specs.Prelude.{◌≡◌, ℕ, ◌+◌, pos, ℤ, Bool, true, false, ◌||◌, List, [], ◌∷◌, ◌++◌, length, take, slice_index_or, Option, None, Some, Result, Ok, Err, if◌then◌else◌, nat_lt, is_none, is_some, codes}
+use Rattle.std.specs.List.{position, find, filter_map, flat_map, reduce, range_with_len}
 use Rattle.std.specs.Option.{option_map, option_or}
-use Rattle.std.specs.Ordering.{int_eq}
 use Rattle.gml_text.specs.declared.number.NumberFault.{NumberFault}
 use Rattle.gml_text.specs.declared.tree.Tree.{Tree, out-Tree}
 use Rattle.gml_text.specs.declared.tree.Pair.{Pair}
@@ -18,7 +17,7 @@ use Rattle.drawing_read.specs.declared.written.Edge.{Edge}
 use Rattle.drawing_read.specs.declared.written.Graph.{Graph}
 use Rattle.drawing_read.specs.Lookups.{lists_under}
 use Rattle.drawing_read.specs.WrittenGraphs.{graph_of}
-use Rattle.drawing_read.specs.Routes.{fitting, ids_of, node_with, node_points, routes_of, vertex_points, spans_of, pieces_of}
+use Rattle.drawing_read.specs.Routes.{fitting, ids_of, number_of_id, node_with, node_points, routes_of, vertex_points, spans_of, pieces_of}
 
 abbrev pub is_absent : WholeNumber → Bool
 is_absent Absent = true
@@ -42,7 +41,7 @@ is_no_numeral (Fits number) = false
 
 -- node n has the id of an earlier node
 abbrev pub repeats_id : List ℤ → ℕ → Bool
-repeats_id ids n = list_any (int_eq (slice_index_or ids n (pos 0))) (take n ids)
+repeats_id ids n = is_some (number_of_id (take n ids) (slice_index_or ids n (pos 0)))
 
 abbrev pub first_repeated : List ℤ → Option ℕ
 first_repeated ids = find (repeats_id ids) (range_with_len 0 (length ids))
@@ -76,8 +75,8 @@ abbrev pub lacks_end : Edge → Bool
 lacks_end edge = is_no_numeral edge.source || is_no_numeral edge.target
 
 -- an end of the edge is no node's id
-abbrev pub has_unknown_end : List ℤ → Edge → Bool
-has_unknown_end ids edge = is_none (node_with ids edge.source) || is_none (node_with ids edge.target)
+abbrev pub has_unknown_end : (ℤ → Option ℕ) → Edge → Bool
+has_unknown_end look edge = is_none (node_with look edge.source) || is_none (node_with look edge.target)
 
 -- the first bad point of the edges, which are numbered from e on
 abbrev pub bad_point_from : ℕ → List Edge → Option DrawFault
@@ -112,7 +111,7 @@ place_fault graph =
 abbrev pub edge_fault : Graph → Option DrawFault
 edge_fault graph =
     option_or (option_map (λ e. NoEnd e) (position lacks_end graph.edges))
-    (option_or (option_map (λ e. UnknownEnd e) (position (has_unknown_end (ids_of graph.nodes)) graph.edges))
+    (option_or (option_map (λ e. UnknownEnd e) (position (has_unknown_end (number_of_id (ids_of graph.nodes))) graph.edges))
     (bad_point_from 0 graph.edges))
 
 -- the faults of its size
