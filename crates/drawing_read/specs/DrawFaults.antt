@@ -17,7 +17,7 @@ use Rattle.drawing_read.specs.declared.written.Edge.{Edge}
 use Rattle.drawing_read.specs.declared.written.Graph.{Graph}
 use Rattle.drawing_read.specs.Lookups.{lists_under}
 use Rattle.drawing_read.specs.WrittenGraphs.{graph_of}
-use Rattle.drawing_read.specs.Routes.{fitting, ids_of, number_of_id, node_with, node_points, routes_of, vertex_points, spans_of, pieces_of}
+use Rattle.drawing_read.specs.Routes.{fitting, ids_of, number_of_id, node_with, points_in, pieces_in}
 
 abbrev pub is_absent : WholeNumber → Bool
 is_absent Absent = true
@@ -87,12 +87,6 @@ bad_point_from e (edge ∷ edges) = option_or (option_map (λ p. BadPoint e p) (
 abbrev pub too_many : ℕ → ℕ → Option ℕ
 too_many most count = if nat_lt most count then Some count else None
 
-abbrev pub vertex_count : Graph → ℕ
-vertex_count graph = length (vertex_points (node_points graph.nodes) (routes_of graph))
-
-abbrev pub piece_count : Graph → ℕ
-piece_count graph = length (pieces_of (spans_of (node_points graph.nodes) (routes_of graph)))
-
 -- the faults of a graph's nodes by themselves
 abbrev pub node_fault : List Node → Option DrawFault
 node_fault nodes =
@@ -107,23 +101,24 @@ place_fault graph =
     (option_or (option_map (λ n. NoPlace n) (position (λ node. is_none node.place) graph.nodes))
     (option_map (λ number. BadNumber number.at number.cause) (first_refused (numbers_of graph))))
 
--- the faults of its edges
-abbrev pub edge_fault : Graph → Option DrawFault
-edge_fault graph =
-    option_or (option_map (λ e. NoEnd e) (position lacks_end graph.edges))
-    (option_or (option_map (λ e. UnknownEnd e) (position (has_unknown_end (number_of_id (ids_of graph.nodes))) graph.edges))
-    (bad_point_from 0 graph.edges))
+-- the faults of its edges, where `look` tells which node has an id
+abbrev pub edge_fault : (ℤ → Option ℕ) → List Edge → Option DrawFault
+edge_fault look edges =
+    option_or (option_map (λ e. NoEnd e) (position lacks_end edges))
+    (option_or (option_map (λ e. UnknownEnd e) (position (has_unknown_end look) edges)) (bad_point_from 0 edges))
 
--- the faults of its size
-abbrev pub size_fault : Graph → Option DrawFault
-size_fault graph =
-    option_or (option_map (λ c. TooManyVertices c) (too_many 1000 (vertex_count graph)))
-    (option_map (λ c. TooManyPieces c) (too_many 4000 (piece_count graph)))
+-- the faults of so many vertices and pieces
+abbrev pub size_fault : ℕ → ℕ → Option DrawFault
+size_fault vertices pieces =
+    option_or (option_map (λ c. TooManyVertices c) (too_many 1000 vertices)) (option_map (λ c. TooManyPieces c) (too_many 4000 pieces))
 
 -- the first fault of what is written in a graph
 abbrev pub graph_fault : Graph → Option DrawFault
-graph_fault graph = option_or (node_fault graph.nodes)
-    (option_or (place_fault graph) (option_or (edge_fault graph) (size_fault graph)))
+graph_fault graph =
+    option_or (node_fault graph.nodes)
+    (option_or (place_fault graph)
+        (option_or (edge_fault (number_of_id (ids_of graph.nodes)) graph.edges)
+            (size_fault (length (points_in graph)) (length (pieces_in graph)))))
 
 -- the first fault where these are the graphs at the top
 abbrev pub fault_of : List (List Pair) → Option DrawFault

@@ -62,9 +62,6 @@ route_of look edge = record {
   points = map point_of edge.points;
 }
 
-abbrev pub routes_of : Graph → List Route
-routes_of graph = map (route_of (number_of_id (ids_of graph.nodes))) graph.edges
-
 abbrev pub same_point : Point → Point → Bool
 same_point p q = int_eq p.x q.x && int_eq p.y q.y
 
@@ -127,3 +124,25 @@ span_pieces span = chain span.source (range_with_len span.first span.bends) span
 -- the pieces of all edges, in order
 abbrev pub pieces_of : List Span → List Piece
 pieces_of spans = flat_map span_pieces spans
+
+-- the edges of a graph as routes, where `look` tells which node has an id
+abbrev pub routes_by : (ℤ → Option ℕ) → Graph → List Route
+routes_by look graph = map (route_of look) graph.edges
+
+abbrev pub points_by : (ℤ → Option ℕ) → Graph → List Point
+points_by look graph = vertex_points (node_points graph.nodes) (routes_by look graph)
+
+abbrev pub spans_by : (ℤ → Option ℕ) → Graph → List Span
+spans_by look graph = spans_of (node_points graph.nodes) (routes_by look graph)
+
+-- the places of the vertices of a graph
+abbrev pub points_in : Graph → List Point
+points_in graph = points_by (number_of_id (ids_of graph.nodes)) graph
+
+-- the edges of a graph by the numbers of their vertices
+abbrev pub spans_in : Graph → List Span
+spans_in graph = spans_by (number_of_id (ids_of graph.nodes)) graph
+
+-- the pieces of a graph
+abbrev pub pieces_in : Graph → List Piece
+pieces_in graph = pieces_of (spans_in graph)

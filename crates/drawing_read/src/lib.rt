@@ -14,6 +14,7 @@ mod lookup;
 mod nodes;
 mod numbers;
 mod points;
+mod spots;
 pub mod read;
 pub mod reading;
 pub mod route;
