@@ -1,0 +1,21 @@
+//! The reading of a drawing from a GML tree: the graph cut into straight pieces, the places of its vertices in
+//! thousandths, and where each coordinate stands in the tree.
+//!
+//! The layer above relies on `IsReading` and `FirstDrawFault`: every tree is a drawing with one reading, or has one
+//! first fault.
+#![tactic(auto)]
+
+mod bends;
+mod edges;
+pub mod fault;
+mod faults;
+mod ids;
+mod lookup;
+mod nodes;
+mod numbers;
+mod points;
+mod spots;
+pub mod read;
+pub mod reading;
+pub mod route;
+pub mod written;
