@@ -1,6 +1,7 @@
 pub mod Alike
 pub mod Bytes
 pub mod Faults
+pub mod Grammar
 pub mod NumeralKinds
 pub mod Numerals
 pub mod Reading
