@@ -7,11 +7,13 @@ pub mod FirstFaults
 pub mod Fronts
 pub mod Induction
 pub mod Keys
+pub mod Levels
 pub mod NumeralLaws
 pub mod NumeralParts
 pub mod OneAnswer
 pub mod Opened
 pub mod PartLemmas
+pub mod Readable
 pub mod Runs
 pub mod ScaleLemmas
 pub mod Scaling

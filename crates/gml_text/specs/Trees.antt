@@ -1,5 +1,5 @@
 -- Facts of trees that hold of every value in them.
-use Rattle.std.specs.Prelude.{◌≡◌, ℕ, suc, Bool, true, false, ◌&&◌, List, Option, None, Some, nat_lt}
+use Rattle.std.specs.Prelude.{ℕ, suc, Bool, true, false, ◌&&◌, Option, None, Some, nat_lt}
 use Rattle.std.specs.List.{list_all}
 use Rattle.gml_text.specs.declared.number.NumeralKind.{NumeralKind}
 use Rattle.gml_text.specs.declared.number.NumeralKind.TheVariants as kinds
@@ -10,7 +10,7 @@ use Rattle.gml_text.specs.declared.tree.Value.TheOpen.{Whole, Real, Text, Inner}
 use Rattle.gml_text.specs.Bytes.{lacks, is_key}
 use Rattle.gml_text.specs.Numerals.{is_whole_numeral}
 use Rattle.gml_text.specs.NumeralKinds.{kind_of}
-use Rattle.gml_text.specs.Texts.{most_depth, Spells}
+use Rattle.gml_text.specs.Texts.{most_depth}
 
 abbrev pub is_real_kind : Option NumeralKind → Bool
 is_real_kind None = false
