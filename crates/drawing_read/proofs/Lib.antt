@@ -1,0 +1,3 @@
+pub mod SizeLemmas
+pub mod Steps
+pub mod ThousandthsLemmas

@@ -1,0 +1,141 @@
+-- Why a tree is no drawing: the first fault, in the order of their kinds.
+use Rattle.std.specs.Prelude.{◌≡◌, ℕ, ◌+◌, pos, ℤ, Bool, true, false, ◌||◌, List, [], ◌∷◌, ◌++◌, length, take, slice_index_or, Option, None, Some, Result, Ok, Err, if◌then◌else◌, nat_lt, is_none, codes}
+use Rattle.std.specs.List.{position, find, list_any, filter_map, flat_map, reduce, range_with_len}
+use Rattle.std.specs.Option.{option_map, option_or}
+use Rattle.std.specs.Ordering.{int_eq}
+use Rattle.gml_text.specs.declared.number.NumberFault.{NumberFault}
+use Rattle.gml_text.specs.declared.tree.Tree.{Tree, out-Tree}
+use Rattle.gml_text.specs.declared.tree.Pair.{Pair}
+use Rattle.drawing_read.specs.declared.fault.DrawFault.{DrawFault}
+use Rattle.drawing_read.specs.declared.fault.DrawFault.TheVariants.{NoGraph, TwoGraphs, Empty, NoId, BadId, RepeatedId, NoPlace, BadNumber, NoEnd, UnknownEnd, BadPoint, TooManyVertices, TooManyPieces}
+use Rattle.drawing_read.specs.declared.written.Number.{Number}
+use Rattle.drawing_read.specs.declared.written.Numbers.{Numbers}
+use Rattle.drawing_read.specs.declared.written.RefusedNumber.{RefusedNumber}
+use Rattle.drawing_read.specs.declared.written.WholeNumber.{WholeNumber}
+use Rattle.drawing_read.specs.declared.written.WholeNumber.TheVariants.{Absent, Other, Beyond, Fits}
+use Rattle.drawing_read.specs.declared.written.Node.{Node}
+use Rattle.drawing_read.specs.declared.written.Edge.{Edge}
+use Rattle.drawing_read.specs.declared.written.Graph.{Graph}
+use Rattle.drawing_read.specs.Lookups.{lists_under}
+use Rattle.drawing_read.specs.WrittenGraphs.{graph_of}
+use Rattle.drawing_read.specs.Routes.{fitting, ids_of, node_with, node_points, routes_of, vertex_points, spans_of, pieces_of}
+
+abbrev pub is_absent : WholeNumber → Bool
+is_absent Absent = true
+is_absent Other = false
+is_absent Beyond = false
+is_absent (Fits number) = false
+
+-- it is there, and is no whole numeral of 64 bits
+abbrev pub is_unfit : WholeNumber → Bool
+is_unfit Absent = false
+is_unfit Other = true
+is_unfit Beyond = true
+is_unfit (Fits number) = false
+
+-- there is no whole numeral
+abbrev pub is_no_numeral : WholeNumber → Bool
+is_no_numeral Absent = true
+is_no_numeral Other = true
+is_no_numeral Beyond = false
+is_no_numeral (Fits number) = false
+
+-- node n has the id of an earlier node
+abbrev pub repeats_id : List ℤ → ℕ → Bool
+repeats_id ids n = list_any (int_eq (slice_index_or ids n (pos 0))) (take n ids)
+
+abbrev pub first_repeated : List ℤ → Option ℕ
+first_repeated ids = find (repeats_id ids) (range_with_len 0 (length ids))
+
+abbrev pub both_numbers : Option Numbers → List Number
+both_numbers None = []
+both_numbers (Some numbers) = numbers.x ∷ numbers.y ∷ []
+
+-- the numbers of the nodes' places, and of the points that have both
+abbrev pub numbers_of : Graph → List Number
+numbers_of graph =
+    flat_map (λ node. both_numbers node.place) graph.nodes ++ flat_map (λ edge. flat_map both_numbers edge.points) graph.edges
+
+-- where a refused number stands, and why it is refused
+abbrev pub refused_in : Number → Option RefusedNumber
+refused_in number = refused_by number.value
+  where
+    refused_by : Result ℤ NumberFault → Option RefusedNumber
+    refused_by (Ok value) = None
+    refused_by (Err cause) = Some (record { at = number.at; cause = cause })
+
+-- the one of two that stands first
+abbrev pub earlier : RefusedNumber → RefusedNumber → RefusedNumber
+earlier a b = if nat_lt b.at a.at then b else a
+
+-- of the refused numbers the one with the least offset
+abbrev pub first_refused : List Number → Option RefusedNumber
+first_refused numbers = reduce earlier (filter_map refused_in numbers)
+
+abbrev pub lacks_end : Edge → Bool
+lacks_end edge = is_no_numeral edge.source || is_no_numeral edge.target
+
+-- an end of the edge is no node's id
+abbrev pub has_unknown_end : List ℤ → Edge → Bool
+has_unknown_end ids edge = is_none (node_with ids edge.source) || is_none (node_with ids edge.target)
+
+-- the first bad point of the edges, which are numbered from e on
+abbrev pub bad_point_from : ℕ → List Edge → Option DrawFault
+bad_point_from e [] = None
+bad_point_from e (edge ∷ edges) = option_or (option_map (λ p. BadPoint e p) (position is_none edge.points)) (bad_point_from (e + 1) edges)
+
+-- the count, where it is above the most
+abbrev pub too_many : ℕ → ℕ → Option ℕ
+too_many most count = if nat_lt most count then Some count else None
+
+abbrev pub vertex_count : Graph → ℕ
+vertex_count graph = length (vertex_points (node_points graph.nodes) (routes_of graph))
+
+abbrev pub piece_count : Graph → ℕ
+piece_count graph = length (pieces_of (spans_of (node_points graph.nodes) (routes_of graph)))
+
+-- the faults of a graph's nodes by themselves
+abbrev pub node_fault : List Node → Option DrawFault
+node_fault nodes =
+    option_or (if nat_lt 0 (length nodes) then None else Some Empty)
+    (option_or (option_map (λ n. NoId n) (position (λ node. is_absent node.id) nodes))
+    (option_map (λ n. BadId n) (position (λ node. is_unfit node.id) nodes)))
+
+-- the next three kinds: an id that an earlier node has, a node without a place, and a refused number
+abbrev pub place_fault : Graph → Option DrawFault
+place_fault graph =
+    option_or (option_map (λ n. RepeatedId n) (first_repeated (ids_of graph.nodes)))
+    (option_or (option_map (λ n. NoPlace n) (position (λ node. is_none node.place) graph.nodes))
+    (option_map (λ number. BadNumber number.at number.cause) (first_refused (numbers_of graph))))
+
+-- the faults of its edges
+abbrev pub edge_fault : Graph → Option DrawFault
+edge_fault graph =
+    option_or (option_map (λ e. NoEnd e) (position lacks_end graph.edges))
+    (option_or (option_map (λ e. UnknownEnd e) (position (has_unknown_end (ids_of graph.nodes)) graph.edges))
+    (bad_point_from 0 graph.edges))
+
+-- the faults of its size
+abbrev pub size_fault : Graph → Option DrawFault
+size_fault graph =
+    option_or (option_map (λ c. TooManyVertices c) (too_many 1000 (vertex_count graph)))
+    (option_map (λ c. TooManyPieces c) (too_many 4000 (piece_count graph)))
+
+-- the first fault of what is written in a graph
+abbrev pub graph_fault : Graph → Option DrawFault
+graph_fault graph = option_or (node_fault graph.nodes)
+    (option_or (place_fault graph) (option_or (edge_fault graph) (size_fault graph)))
+
+-- the first fault where these are the graphs at the top
+abbrev pub fault_of : List (List Pair) → Option DrawFault
+fault_of [] = Some NoGraph
+fault_of (graph ∷ []) = graph_fault (graph_of graph)
+fault_of (graph ∷ other ∷ graphs) = Some TwoGraphs
+
+-- the graphs of a tree: the lists at the top under the key `graph`
+abbrev pub graphs_of : Tree → List (List Pair)
+graphs_of tree = lists_under (codes "graph") (out-Tree tree).pairs
+
+-- the tree is no drawing, and this is its first fault
+abbrev pub FirstDrawFault : Tree → DrawFault → Type 0
+FirstDrawFault tree fault = fault_of (graphs_of tree) ≡ Some fault

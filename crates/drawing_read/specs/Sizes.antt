@@ -1,0 +1,25 @@
+-- Lists of pairs as they stand in trees that were read: their words are numerals where they should be, and they are not
+-- too many.
+use Rattle.std.specs.Prelude.{◌≡◌, ℕ, ◌≤◌, Bool, true, List, sum_by}
+use Rattle.std.specs.List.{list_all}
+use Rattle.gml_text.specs.declared.tree.Pair.{Pair, fold-Pair}
+use Rattle.gml_text.specs.Grammar.{value_is_within, pair_is_within, list_is_within, pairs_in_value, pairs_with_value, pairs_in_list}
+
+-- the key of the pair is one and its words are numerals, at every depth
+abbrev pub is_pair_within : Pair → Bool
+is_pair_within = fold-Pair Bool Bool Bool value_is_within pair_is_within list_is_within
+
+-- one for the pair, and the pairs inside it
+abbrev pub weight_of : Pair → ℕ
+weight_of = fold-Pair ℕ ℕ ℕ pairs_in_value pairs_with_value pairs_in_list
+
+abbrev pub most_pairs : ℕ
+most_pairs = 67108864
+
+pub record IsReadablePair (pair : Pair) : Type 0 where
+  pub words : is_pair_within pair ≡ true
+  pub few : weight_of pair ≤ most_pairs
+
+pub record AreReadable (pairs : List Pair) : Type 0 where
+  pub words : list_all is_pair_within pairs ≡ true
+  pub few : sum_by weight_of pairs ≤ most_pairs

@@ -1,0 +1,14 @@
+//! The reading of a drawing from a GML tree: the graph cut into straight pieces, the places of its vertices in
+//! thousandths, and where each coordinate stands in the tree.
+//!
+//! The layer above relies on `IsReading` and `FirstDrawFault`: every tree is a drawing with one reading, or has one
+//! first fault.
+#![tactic(auto)]
+
+pub mod fault;
+mod lookup;
+mod nodes;
+pub mod read;
+pub mod reading;
+pub mod route;
+pub mod written;
