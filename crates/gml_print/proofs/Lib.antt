@@ -1,2 +1,3 @@
 pub mod Printed
 pub mod Numerals
+pub mod PlaceNumbers

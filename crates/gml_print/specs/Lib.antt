@@ -1,3 +1,4 @@
 pub mod Printing
 pub mod Numbers
 pub mod Placing
+pub mod Places
