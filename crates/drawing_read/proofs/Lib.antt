@@ -1,3 +1,5 @@
 pub mod SizeLemmas
 pub mod Steps
 pub mod ThousandthsLemmas
+pub mod RefusedLemmas
+pub mod IdLemmas

@@ -61,10 +61,10 @@ value_words pair readable = (and_both (is_key pair.key) (is_value_within pair.va
 pub readable_list : (pair : Pair) (tree : Tree) → pair.value ≡ Inner tree → IsReadablePair pair → AreReadable (out-Tree tree).pairs
 readable_list pair tree is readable =
     readable_tree tree (record {
-        grammar = sym (inner_words tree) ∙ ap is_value_within (sym is) ∙ value_words pair readable;
-        few =
-        let e : pairs_inside pair.value ≡ pair_count tree = ap pairs_inside is ∙ inner_count tree in
-        omega (arith, pair_weight pair, readable.few);
+      grammar = sym (inner_words tree) ∙ ap is_value_within (sym is) ∙ value_words pair readable;
+      few =
+          let e : pairs_inside pair.value ≡ pair_count tree = ap pairs_inside is ∙ inner_count tree in
+          omega (arith, pair_weight pair, readable.few);
     })
 
 whole_within : (word : List ℕ) → is_value_within (Whole word) ≡ is_whole_numeral word
@@ -90,8 +90,8 @@ pub readable_at : (pairs : List Pair) (i : ℕ) (pair : Pair) → AreReadable pa
 readable_at pairs i pair readable within is = record {
   words = words pairs i pair within is readable.words;
   few =
-  let e : weight_of pair ≡ weight_of (get_or pairs i pair) = ap weight_of is in
-  omega (arith, get_or-le-sum_by weight_of pairs i pair within, readable.few);
+      let e : weight_of pair ≡ weight_of (get_or pairs i pair) = ap weight_of is in
+      omega (arith, get_or-le-sum_by weight_of pairs i pair within, readable.few);
 }
   where
     words : (pairs : List Pair) (i : ℕ) (pair : Pair) → i < length pairs → pair ≡ get_or pairs i pair → list_all is_pair_within pairs ≡ true → is_pair_within pair ≡ true

@@ -1,8 +1,7 @@
 -- Why a tree is no drawing: the first fault, in the order of their kinds.
-use Rattle.std.specs.Prelude.{◌≡◌, ℕ, ◌+◌, pos, ℤ, Bool, true, false, ◌||◌, List, [], ◌∷◌, ◌++◌, length, take, slice_index_or, Option, None, Some, Result, Ok, Err, if◌then◌else◌, nat_lt, is_none, codes}
-use Rattle.std.specs.List.{position, find, list_any, filter_map, flat_map, reduce, range_with_len}
+use Rattle.std.specs.Prelude.{◌≡◌, ℕ, ◌+◌, pos, ℤ, Bool, true, false, ◌||◌, List, [], ◌∷◌, ◌++◌, length, take, slice_index_or, Option, None, Some, Result, Ok, Err, if◌then◌else◌, nat_lt, is_none, is_some, codes}
+use Rattle.std.specs.List.{position, find, filter_map, flat_map, reduce, range_with_len}
 use Rattle.std.specs.Option.{option_map, option_or}
-use Rattle.std.specs.Ordering.{int_eq}
 use Rattle.gml_text.specs.declared.number.NumberFault.{NumberFault}
 use Rattle.gml_text.specs.declared.tree.Tree.{Tree, out-Tree}
 use Rattle.gml_text.specs.declared.tree.Pair.{Pair}
@@ -18,7 +17,7 @@ use Rattle.drawing_read.specs.declared.written.Edge.{Edge}
 use Rattle.drawing_read.specs.declared.written.Graph.{Graph}
 use Rattle.drawing_read.specs.Lookups.{lists_under}
 use Rattle.drawing_read.specs.WrittenGraphs.{graph_of}
-use Rattle.drawing_read.specs.Routes.{fitting, ids_of, node_with, node_points, routes_of, vertex_points, spans_of, pieces_of}
+use Rattle.drawing_read.specs.Routes.{fitting, ids_of, number_of_id, node_with, points_in, pieces_in}
 
 abbrev pub is_absent : WholeNumber → Bool
 is_absent Absent = true
@@ -42,7 +41,7 @@ is_no_numeral (Fits number) = false
 
 -- node n has the id of an earlier node
 abbrev pub repeats_id : List ℤ → ℕ → Bool
-repeats_id ids n = list_any (int_eq (slice_index_or ids n (pos 0))) (take n ids)
+repeats_id ids n = is_some (number_of_id (take n ids) (slice_index_or ids n (pos 0)))
 
 abbrev pub first_repeated : List ℤ → Option ℕ
 first_repeated ids = find (repeats_id ids) (range_with_len 0 (length ids))
@@ -76,8 +75,8 @@ abbrev pub lacks_end : Edge → Bool
 lacks_end edge = is_no_numeral edge.source || is_no_numeral edge.target
 
 -- an end of the edge is no node's id
-abbrev pub has_unknown_end : List ℤ → Edge → Bool
-has_unknown_end ids edge = is_none (node_with ids edge.source) || is_none (node_with ids edge.target)
+abbrev pub has_unknown_end : (ℤ → Option ℕ) → Edge → Bool
+has_unknown_end look edge = is_none (node_with look edge.source) || is_none (node_with look edge.target)
 
 -- the first bad point of the edges, which are numbered from e on
 abbrev pub bad_point_from : ℕ → List Edge → Option DrawFault
@@ -87,12 +86,6 @@ bad_point_from e (edge ∷ edges) = option_or (option_map (λ p. BadPoint e p) (
 -- the count, where it is above the most
 abbrev pub too_many : ℕ → ℕ → Option ℕ
 too_many most count = if nat_lt most count then Some count else None
-
-abbrev pub vertex_count : Graph → ℕ
-vertex_count graph = length (vertex_points (node_points graph.nodes) (routes_of graph))
-
-abbrev pub piece_count : Graph → ℕ
-piece_count graph = length (pieces_of (spans_of (node_points graph.nodes) (routes_of graph)))
 
 -- the faults of a graph's nodes by themselves
 abbrev pub node_fault : List Node → Option DrawFault
@@ -108,23 +101,24 @@ place_fault graph =
     (option_or (option_map (λ n. NoPlace n) (position (λ node. is_none node.place) graph.nodes))
     (option_map (λ number. BadNumber number.at number.cause) (first_refused (numbers_of graph))))
 
--- the faults of its edges
-abbrev pub edge_fault : Graph → Option DrawFault
-edge_fault graph =
-    option_or (option_map (λ e. NoEnd e) (position lacks_end graph.edges))
-    (option_or (option_map (λ e. UnknownEnd e) (position (has_unknown_end (ids_of graph.nodes)) graph.edges))
-    (bad_point_from 0 graph.edges))
+-- the faults of its edges, where `look` tells which node has an id
+abbrev pub edge_fault : (ℤ → Option ℕ) → List Edge → Option DrawFault
+edge_fault look edges =
+    option_or (option_map (λ e. NoEnd e) (position lacks_end edges))
+    (option_or (option_map (λ e. UnknownEnd e) (position (has_unknown_end look) edges)) (bad_point_from 0 edges))
 
--- the faults of its size
-abbrev pub size_fault : Graph → Option DrawFault
-size_fault graph =
-    option_or (option_map (λ c. TooManyVertices c) (too_many 1000 (vertex_count graph)))
-    (option_map (λ c. TooManyPieces c) (too_many 4000 (piece_count graph)))
+-- the faults of so many vertices and pieces
+abbrev pub size_fault : ℕ → ℕ → Option DrawFault
+size_fault vertices pieces =
+    option_or (option_map (λ c. TooManyVertices c) (too_many 1000 vertices)) (option_map (λ c. TooManyPieces c) (too_many 4000 pieces))
 
 -- the first fault of what is written in a graph
 abbrev pub graph_fault : Graph → Option DrawFault
-graph_fault graph = option_or (node_fault graph.nodes)
-    (option_or (place_fault graph) (option_or (edge_fault graph) (size_fault graph)))
+graph_fault graph =
+    option_or (node_fault graph.nodes)
+    (option_or (place_fault graph)
+        (option_or (edge_fault (number_of_id (ids_of graph.nodes)) graph.edges)
+            (size_fault (length (points_in graph)) (length (pieces_in graph)))))
 
 -- the first fault where these are the graphs at the top
 abbrev pub fault_of : List (List Pair) → Option DrawFault

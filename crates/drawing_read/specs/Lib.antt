@@ -6,3 +6,4 @@ pub mod DrawFaults
 pub mod Routes
 pub mod Spots
 pub mod Readings
+pub mod Passes

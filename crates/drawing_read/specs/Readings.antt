@@ -4,35 +4,30 @@ use Rattle.std.specs.List.{position}
 use Rattle.gml_text.specs.declared.tree.Tree.{Tree, out-Tree}
 use Rattle.gml_text.specs.declared.tree.Pair.{Pair}
 use Rattle.drawing_read.specs.declared.reading.Reading.{Reading}
-use Rattle.drawing_read.specs.declared.written.Graph.{Graph}
-use Rattle.drawing_read.specs.declared.route.Span.{Span}
-use Rattle.compact_types.specs.declared.places.Point.{Point}
 use Rattle.drawing_read.specs.Lookups.{list_under}
 use Rattle.drawing_read.specs.WrittenGraphs.{graph_of}
-use Rattle.drawing_read.specs.Routes.{node_points, routes_of, vertex_points, spans_of, pieces_of}
+use Rattle.drawing_read.specs.Routes.{points_in, spans_in, pieces_in}
 use Rattle.drawing_read.specs.DrawFaults.{graphs_of, graph_fault}
 use Rattle.drawing_read.specs.Spots.{graph_spots}
-
--- the places of the vertices of a graph
-abbrev pub points_in : Graph → List Point
-points_in graph = vertex_points (node_points graph.nodes) (routes_of graph)
-
-abbrev pub spans_in : Graph → List Span
-spans_in graph = spans_of (node_points graph.nodes) (routes_of graph)
 
 -- the place of the graph at the top
 abbrev pub graph_place : Tree → ℕ
 graph_place tree = unwrap_or (position (λ pair. is_some (list_under (codes "graph") pair)) (out-Tree tree).pairs) 0
 
--- the reading of a tree whose one graph is this list
-pub record IsReadingOf (tree : Tree) (pairs : List Pair) (reading : Reading) : Type 0 where
-  pub one_graph : graphs_of tree ≡ pairs ∷ []
+-- the reading of a graph whose pair stands at this place
+pub record IsGraphReading (at : ℕ) (pairs : List Pair) (reading : Reading) : Type 0 where
   pub faultless : graph_fault (graph_of pairs) ≡ None
   pub vertices : reading.plan.vertices ≡ length (points_in (graph_of pairs))
-  pub pieces : reading.plan.pieces ≡ pieces_of (spans_in (graph_of pairs))
+  pub pieces : reading.plan.pieces ≡ pieces_in (graph_of pairs)
   pub places : reading.places.xy ≡ points_in (graph_of pairs)
-  pub spots : reading.spots ≡ graph_spots (graph_place tree ∷ []) (spans_in (graph_of pairs)) 0 0 0 pairs
+  pub spots : reading.spots ≡ graph_spots (at ∷ []) (spans_in (graph_of pairs)) 0 0 0 pairs
+
+-- what holds of the list, where there is just one
+abbrev pub IfOne : List (List Pair) → (List Pair → Type 0) → Type 0
+IfOne [] P = ⊥
+IfOne (pairs ∷ []) P = P pairs
+IfOne (pairs ∷ other ∷ more) P = ⊥
 
 -- the tree is a drawing, and this is its reading
 abbrev pub IsReading : Tree → Reading → Type 0
-IsReading tree reading = (pairs : List Pair) × IsReadingOf tree pairs reading
+IsReading tree reading = IfOne (graphs_of tree) (λ pairs. IsGraphReading (graph_place tree) pairs reading)

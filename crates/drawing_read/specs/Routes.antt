@@ -32,9 +32,13 @@ id_of node = unwrap_or (fitting node.id) (pos 0)
 abbrev pub ids_of : List Node → List ℤ
 ids_of nodes = map id_of nodes
 
--- the number of the first node with this id
-abbrev pub node_with : List ℤ → WholeNumber → Option ℕ
-node_with ids end = option_and_then (λ id. position (int_eq id) ids) (fitting end)
+-- the number of the first node with an id
+abbrev pub number_of_id : List ℤ → ℤ → Option ℕ
+number_of_id ids id = position (int_eq id) ids
+
+-- the node that an end names, where `look` tells which node has an id
+abbrev pub node_with : (ℤ → Option ℕ) → WholeNumber → Option ℕ
+node_with look end = option_and_then look (fitting end)
 
 -- a number in thousandths that is not refused
 abbrev pub value_of : Result ℤ NumberFault → ℤ
@@ -51,15 +55,12 @@ abbrev pub node_points : List Node → List Point
 node_points nodes = map (λ node. point_of node.place) nodes
 
 -- an edge with its ends as node numbers and its points as places
-abbrev pub route_of : List ℤ → Edge → Route
-route_of ids edge = record {
-  source = unwrap_or (node_with ids edge.source) 0;
-  target = unwrap_or (node_with ids edge.target) 0;
+abbrev pub route_of : (ℤ → Option ℕ) → Edge → Route
+route_of look edge = record {
+  source = unwrap_or (node_with look edge.source) 0;
+  target = unwrap_or (node_with look edge.target) 0;
   points = map point_of edge.points;
 }
-
-abbrev pub routes_of : Graph → List Route
-routes_of graph = map (route_of (ids_of graph.nodes)) graph.edges
 
 abbrev pub same_point : Point → Point → Bool
 same_point p q = int_eq p.x q.x && int_eq p.y q.y
@@ -123,3 +124,25 @@ span_pieces span = chain span.source (range_with_len span.first span.bends) span
 -- the pieces of all edges, in order
 abbrev pub pieces_of : List Span → List Piece
 pieces_of spans = flat_map span_pieces spans
+
+-- the edges of a graph as routes, where `look` tells which node has an id
+abbrev pub routes_by : (ℤ → Option ℕ) → Graph → List Route
+routes_by look graph = map (route_of look) graph.edges
+
+abbrev pub points_by : (ℤ → Option ℕ) → Graph → List Point
+points_by look graph = vertex_points (node_points graph.nodes) (routes_by look graph)
+
+abbrev pub spans_by : (ℤ → Option ℕ) → Graph → List Span
+spans_by look graph = spans_of (node_points graph.nodes) (routes_by look graph)
+
+-- the places of the vertices of a graph
+abbrev pub points_in : Graph → List Point
+points_in graph = points_by (number_of_id (ids_of graph.nodes)) graph
+
+-- the edges of a graph by the numbers of their vertices
+abbrev pub spans_in : Graph → List Span
+spans_in graph = spans_by (number_of_id (ids_of graph.nodes)) graph
+
+-- the pieces of a graph
+abbrev pub pieces_in : Graph → List Piece
+pieces_in graph = pieces_of (spans_in graph)

@@ -5,9 +5,16 @@
 //! first fault.
 #![tactic(auto)]
 
+mod bends;
+mod edges;
 pub mod fault;
+mod faults;
+mod ids;
 mod lookup;
 mod nodes;
+mod numbers;
+mod points;
+mod spots;
 pub mod read;
 pub mod reading;
 pub mod route;

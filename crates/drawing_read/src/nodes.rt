@@ -12,7 +12,7 @@ use crate::lookup::{first_list, first_under, list_under};
 use crate::written::{Node, Number, Numbers, WholeNumber};
 use compact_types::items::Items;
 use compact_types::refusal::NoMemory;
-use gml_text::number::{thousandths, whole, NumberFault};
+use gml_text::number::{NumberFault, thousandths, whole};
 use gml_text::tree::{Pair, Value};
 use std::alloc::Global;
 
