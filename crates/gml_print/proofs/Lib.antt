@@ -2,3 +2,4 @@ pub mod Alike
 pub mod Printed
 pub mod ReadsBack
 pub mod Numerals
+pub mod PlaceNumbers

@@ -2,3 +2,4 @@ pub mod Laws
 pub mod Printing
 pub mod Numbers
 pub mod Placing
+pub mod Places

@@ -4,7 +4,9 @@
 //! value of its number, and on `put_value`, a tree with one value changed.
 #![tactic(auto)]
 
+mod copy;
 pub mod law;
 pub mod number;
 pub mod place;
+pub mod places;
 pub mod print;

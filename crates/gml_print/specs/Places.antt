@@ -1,0 +1,39 @@
+-- The tree of a drawing with new places of its vertices.
+use Rattle.std.specs.Prelude.{◌≡◌, ℕ, ◌<◌, ◌≤◌, ℤ, pos, ◌*ℤ◌, ◌≤ℤ◌, List, [], ◌∷◌, length}
+use Rattle.compact_types.specs.declared.places.Places.{Places}
+use Rattle.compact_types.specs.declared.places.Axis.{Axis}
+use Rattle.compact_types.specs.Lookups.{place, along}
+use Rattle.gml_text.specs.declared.tree.Tree.{Tree}
+use Rattle.gml_text.specs.declared.tree.Value.{Value}
+use Rattle.gml_text.specs.declared.tree.Value.TheVariants.{Whole}
+use Rattle.drawing_read.specs.declared.reading.Reading.{Reading}
+use Rattle.drawing_read.specs.declared.reading.Spot.{Spot}
+use Rattle.drawing_read.specs.Readings.{IsReading}
+use Rattle.gml_print.specs.Numbers.{number_text}
+use Rattle.gml_print.specs.Placing.{put_value}
+
+-- the coordinate of a spot: that of its vertex along its axis
+abbrev pub coordinate_at : Places → Spot → ℤ
+coordinate_at places spot = along spot.axis (place places.xy spot.vertex)
+
+-- the whole numeral of so many times the coordinate of a spot
+abbrev pub numeral_for : Places → ℕ → Spot → Value
+numeral_for places pitch spot = Whole (number_text (pos pitch *ℤ coordinate_at places spot))
+
+-- the tree with that numeral in place of the value at each spot's path
+abbrev pub placed : Tree → List Spot → Places → ℕ → Tree
+placed tree [] places pitch = tree
+placed tree (spot ∷ spots) places pitch = placed (put_value spot.path (numeral_for places pitch spot) tree) spots places pitch
+
+-- both coordinates of each place are from 0 to 999,000
+abbrev pub AreWithin : Places → Type 0
+AreWithin places = (v : ℕ) (axis : Axis) → v < length places.xy →
+    (pos 0 ≤ℤ (along axis (place places.xy v))) × ((along axis (place places.xy v)) ≤ℤ pos 999000)
+
+-- the places can be written into the tree of this reading, with so many units between neighbours
+pub record CanPut (tree : Tree) (reading : Reading) (places : Places) (pitch : ℕ) : Type 0 where
+  pub read : IsReading tree reading
+  pub one_for_each : length places.xy ≡ reading.plan.vertices
+  pub within : AreWithin places
+  pub some_pitch : 1 ≤ pitch
+  pub most_pitch : pitch ≤ 10000

@@ -1,0 +1,71 @@
+//! The tree of a drawing with new places of its vertices.
+
+ghost use Rattle.std.specs.Prelude.{◌≡◌, ◌≤◌, pos, ◌*ℤ◌, ◌≤ℤ◌, IfOk};
+ghost use Rattle.gml_print.specs.Places as placing;
+
+use crate::copy::copy_tree;
+use crate::number::whole_text;
+use crate::place::put_value;
+use compact_types::places::{Axis, Places};
+use compact_types::refusal::NoMemory;
+use drawing_read::reading::{Reading, Spot};
+use gml_text::tree::{Tree, Value};
+use std::alloc::Global;
+
+/// The tree of a drawing with its vertices at `places`: at each spot stands `pitch` times the coordinate of its vertex,
+/// as a whole numeral. All else is as in `tree`.
+///
+/// `reading` is that of `tree`, and there is a place for each vertex, with both coordinates from 0 to 999,000; `pitch`
+/// is from 1 to 10,000.
+pub fn put_places(
+    alloc: Global,
+    tree: &Tree,
+    reading: &Reading,
+    places: &Places,
+    pitch: u32,
+) -> Result<Tree, NoMemory>
+    requires { placing.CanPut tree.now reading.now places.now pitch }
+    ensures { IfOk result (λ new. new ≡ placing.placed tree.now reading.now.spots places.now pitch) }
+{
+    let mut new = copy_tree(alloc, tree)?;
+    for spot in reading.spots.as_slice() {
+        let value = numeral_for(alloc, places, pitch, spot)?;
+        put_value(&mut new, spot.path.as_slice(), value);
+    }
+    Ok(new)
+}
+
+/// The coordinate of a spot.
+fn coordinate_at(places: &Places, spot: &Spot) -> i64
+    ensures { result ≡ placing.coordinate_at places.now spot.now }
+{
+    match places.xy.get(spot.vertex as usize) {
+        Some(point) => match spot.axis {
+            Axis::X => point.x,
+            Axis::Y => point.y,
+        },
+        None => 0,
+    }
+}
+
+/// So many times a coordinate.
+#[tactic(auto, using(crate::proofs::PlaceNumbers::product_fits))]
+fn multiple(pitch: u32, coordinate: i64) -> i64
+    requires not_below { pos 0 ≤ℤ coordinate }
+    requires not_above { coordinate ≤ℤ pos 999000 }
+    requires pitch { pitch ≤ 10000 }
+    ensures { result ≡ pos pitch *ℤ coordinate }
+{
+    i64::from(pitch) * coordinate
+}
+
+/// The whole numeral that stands at a spot.
+#[tactic(auto, using(crate::proofs::PlaceNumbers::coordinate_within))]
+fn numeral_for(alloc: Global, places: &Places, pitch: u32, spot: &Spot) -> Result<Value, NoMemory>
+    requires within { placing.AreWithin places.now }
+    requires pitch { pitch ≤ 10000 }
+    ensures { IfOk result (λ value. value ≡ placing.numeral_for places.now pitch spot.now) }
+{
+    let number = multiple(pitch, coordinate_at(places, spot));
+    Ok(Value::Whole(whole_text(alloc, number)?))
+}
