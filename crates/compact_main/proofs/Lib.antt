@@ -1,6 +1,7 @@
-pub mod PairLookups
 pub mod Words
-pub mod ChainTrees
-pub mod PlacedRows
 pub mod ShortestRow
+pub mod ReadingLimits
+pub mod Refusals
+pub mod RowShapes
+pub mod DrawnRows
 pub mod OneEnd

@@ -1,4 +1,4 @@
--- The texts of a list of two words.
+-- The texts of a list of one word or two.
 use Rattle.std.proofs.Common.{◌≡◌, ℕ, ◌<◌, ◌≤◌, Bool, true, List, [], ◌∷◌, length, get_or, refl, arith, sym, ◌∙◌}
 use Rattle.std.specs.Cmp.Lexicographic.{pointwise}
 use Rattle.std.specs.Prelude.{nat_eq}
@@ -19,3 +19,9 @@ two_words [] a b s t least below p q u v = absurd (omega arith)
 two_words (x ∷ []) a b s t least below p q u v = absurd (omega arith)
 two_words (x ∷ y ∷ []) a b s t least below p q u v = rw (← p, ← q, u, v) refl
 two_words (x ∷ y ∷ z ∷ words) a b s t least below p q u v = absurd (omega arith)
+
+pub one_word : (words : List (String Global)) (a : String Global) (s : List ℕ) → 1 ≤ length words → length words < 2 →
+    a ≡ get_or words 0 a → string_bytes a ≡ s → texts_of words ≡ s ∷ []
+one_word [] a s least below p u = absurd (omega arith)
+one_word (x ∷ []) a s least below p u = rw (← p, u) refl
+one_word (x ∷ y ∷ words) a s least below p u = absurd (omega arith)

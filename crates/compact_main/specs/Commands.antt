@@ -4,7 +4,7 @@ use Rattle.std.specs.String.{string_bytes}
 use Rattle.std.specs.declared.string.String.{String}
 use Rattle.std.specs.declared.alloc.Global.{Global}
 use Rattle.compact_main.specs.declared.command.Command.{Command}
-use Rattle.compact_main.specs.declared.command.Command.TheVariants.{Draw}
+use Rattle.compact_main.specs.declared.command.Command.TheVariants.{Draw, Check}
 
 -- the bytes of each word
 abbrev pub texts_of : List (String Global) → List (List ℕ)
@@ -13,7 +13,9 @@ texts_of words = map string_bytes words
 -- the words ask for this command
 abbrev pub Asks : List (List ℕ) → Command → Type 0
 Asks words Draw = words ≡ codes "draw" ∷ codes "--plain" ∷ []
+Asks words Check = words ≡ codes "check" ∷ []
 
 -- how many bytes the command's text may have
 abbrev pub limit_of : Command → ℕ
 limit_of Draw = 4194304
+limit_of Check = 4194304

@@ -1,8 +1,7 @@
-pub mod Chains
-pub mod Views
 pub mod Commands
+pub mod Statuses
 pub mod Rows
+pub mod Drawings
 pub mod Outputs
 pub mod Runs
-pub mod Statuses
 pub mod Notes

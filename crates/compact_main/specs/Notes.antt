@@ -1,13 +1,20 @@
 -- What the user is told of a run that was not done.
-use Rattle.std.specs.Prelude.{◌≡◌, ℕ, List, [], ◌∷◌, ◌++◌, Option, codes, decimal, ◌⊎◌}
+use Rattle.std.specs.Prelude.{◌≡◌, ℕ, ℤ, List, [], ◌∷◌, ◌++◌, Option, codes, decimal, ◌⊎◌}
+use Rattle.std.specs.Fmt.{signed_decimal}
 use Rattle.std.specs.Io.KnownBytes.{Appends}
 use Rattle.io_ends.specs.Counts.{Rose}
 use Rattle.io_ends.specs.Ends.{AppendsFront}
 use Rattle.gml_text.specs.declared.fault.GmlFault.{GmlFault}
 use Rattle.gml_text.specs.declared.fault.GmlKind.{GmlKind}
 use Rattle.gml_text.specs.declared.fault.GmlKind.TheVariants.{BadKey, BadValue, BadNumeral, OpenString, OpenList, StrayClose, TooDeep}
+use Rattle.gml_text.specs.declared.number.NumberFault.{NumberFault}
+use Rattle.gml_text.specs.declared.number.NumberFault.TheVariants.{TooFine, OutOfRange}
+use Rattle.drawing_read.specs.declared.fault.DrawFault.{DrawFault}
+use Rattle.drawing_read.specs.declared.fault.DrawFault.TheVariants.{NoGraph, TwoGraphs, Empty, NoId, BadId, RepeatedId, NoPlace, BadNumber, NoEnd, UnknownEnd, BadPoint, TooManyVertices, TooManyPieces}
+use Rattle.drawing_check.specs.declared.fault.ShapeFault.{ShapeFault}
+use Rattle.drawing_check.specs.declared.fault.ShapeFault.TheVariants.{ZeroPiece, Slanted, Disconnected, Meeting}
 use Rattle.compact_main.specs.declared.status.Why.{Why}
-use Rattle.compact_main.specs.declared.status.Why.TheVariants.{TooLong, Gml, NotYet}
+use Rattle.compact_main.specs.declared.status.Why.TheVariants.{TooLong, Gml, Draw, Shape as Figure, NotYet}
 use Rattle.compact_main.specs.declared.status.Status.{Status}
 use Rattle.compact_main.specs.declared.status.Status.TheVariants.{Done, Refused, BadWords, ReadFault, WriteFault, NoMemory}
 
@@ -21,10 +28,52 @@ kind_text OpenList = codes "list not closed"
 kind_text StrayClose = codes "stray close"
 kind_text TooDeep = codes "too deep"
 
+-- a number between two texts
+abbrev pub around : List ℕ → ℕ → List ℕ → List ℕ
+around front number back = front ++ decimal number ++ back
+
+-- why a number is no coordinate
+abbrev pub cause_text : NumberFault → List ℕ
+cause_text TooFine = codes "number too fine"
+cause_text OutOfRange = codes "number out of range"
+
+-- why a tree is no drawing
+abbrev pub draw_text : DrawFault → List ℕ
+draw_text NoGraph = codes "no graph"
+draw_text TwoGraphs = codes "two graphs"
+draw_text Empty = codes "no node"
+draw_text (NoId node) = around (codes "node ") node (codes " has no id")
+draw_text (BadId node) = around (codes "node ") node (codes " has a bad id")
+draw_text (RepeatedId node) = around (codes "node ") node (codes " repeats an id")
+draw_text (NoPlace node) = around (codes "node ") node (codes " has no place")
+draw_text (BadNumber at cause) = cause_text cause ++ codes " at byte " ++ decimal at
+draw_text (NoEnd edge) = around (codes "edge ") edge (codes " lacks an end")
+draw_text (UnknownEnd edge) = around (codes "edge ") edge (codes " names no node")
+draw_text (BadPoint edge point) = around (codes "edge ") edge (codes " has a bad point ") ++ decimal point
+draw_text (TooManyVertices count) = decimal count ++ codes " vertices"
+draw_text (TooManyPieces count) = decimal count ++ codes " pieces"
+
+-- two pieces by their numbers
+abbrev pub pair_text : ℕ → ℕ → List ℕ
+pair_text p q = around (codes "pieces ") p (codes " and ") ++ decimal q
+
+-- where they meet, in thousandths
+abbrev pub meeting_text : ℤ → ℤ → List ℕ
+meeting_text x y = codes " meet at " ++ signed_decimal x ++ codes " " ++ signed_decimal y
+
+-- why places are no drawing
+abbrev pub shape_text : ShapeFault → List ℕ
+shape_text (ZeroPiece piece) = around (codes "piece ") piece (codes " has no length")
+shape_text (Slanted piece) = around (codes "piece ") piece (codes " is slanted")
+shape_text (Disconnected vertex) = around (codes "vertex ") vertex (codes " is not joined")
+shape_text (Meeting p q x y) = pair_text p q ++ meeting_text x y
+
 -- why a text is refused
 abbrev pub why_text : Why → List ℕ
 why_text TooLong = codes "more than 4194304 bytes"
 why_text (Gml fault) = kind_text fault.kind ++ codes " at byte " ++ decimal fault.at
+why_text (Draw fault) = draw_text fault
+why_text (Figure fault) = shape_text fault
 why_text NotYet = codes "not built yet"
 
 -- the line without its line feed

@@ -1,72 +1,65 @@
 -- What the program writes for a text, and why it refuses one.
-use Rattle.std.specs.Prelude.{◌≡◌, ℕ, zero, suc, ◌<◌, ◌≤◌, List, [], ◌∷◌, length}
+use Rattle.std.specs.Prelude.{◌≡◌, ℕ, ◌<◌, ◌≤◌, List, ◌++◌, length, codes, decimal}
 use Rattle.compact_types.specs.declared.places.Places.{Places}
-use Rattle.compact_types.specs.declared.places.Point.{Point}
-use Rattle.compact_types.specs.Lookups.{place}
+use Rattle.compact_types.specs.declared.plan.Plan.{Plan}
+use Rattle.compact_types.specs.declared.plan.Shape.{Shape}
 use Rattle.compact_types.specs.Bests.{total_length, IsBest}
-use Rattle.compact_types.specs.declared.refusal.Refusal.{Refusal}
-use Rattle.compact_types.specs.declared.refusal.Refusal.TheVariants.{Fault, NoMemory}
-use Rattle.gml_text.specs.declared.fault.GmlFault.{GmlFault}
 use Rattle.gml_text.specs.declared.tree.Tree.{Tree}
-use Rattle.gml_text.specs.declared.tree.Value.TheVariants.{Whole}
-use Rattle.gml_text.specs.Texts.{Spells}
-use Rattle.gml_text.specs.Faults as no_tree
-use Rattle.gml_print.specs.Numbers.{number_text}
-use Rattle.gml_print.specs.Placing.{put_value}
+use Rattle.drawing_read.specs.declared.reading.Reading.{Reading}
+use Rattle.gml_print.specs.Places.{placed}
 use Rattle.gml_print.specs.Printing.{printed}
 use Rattle.compact_main.specs.declared.command.Command.{Command}
-use Rattle.compact_main.specs.declared.command.Command.TheVariants.{Draw}
+use Rattle.compact_main.specs.declared.command.Command.TheVariants.{Draw, Check}
 use Rattle.compact_main.specs.declared.status.Why.{Why}
-use Rattle.compact_main.specs.declared.status.Why.TheVariants.{TooLong, Gml, NotYet}
+use Rattle.compact_main.specs.declared.status.Why.TheVariants as why
 use Rattle.compact_main.specs.Commands.{limit_of}
-use Rattle.compact_main.specs.Chains.{IsChainTree}
-use Rattle.compact_main.specs.Rows.{row_shape, row_places}
+use Rattle.compact_main.specs.Drawings.{HoldsDrawing, FirstTextFault, IsRow}
 
--- the paths to the x and to the y of node k, where the graph of a chain tree stands at this place
-abbrev pub x_path : ℕ → ℕ → List ℕ
-x_path graph k = graph ∷ k ∷ 1 ∷ 0 ∷ []
+-- the tree is written with the best places of its shape, which is a row; all else as it was read
+pub record DrawsRow (text : List ℕ) (tree : Tree) (reading : Reading) (shape : Shape) (places : Places) (written : List ℕ) : Type 0 where
+  pub drawing : HoldsDrawing text tree reading shape
+  pub row : IsRow shape
+  pub best : IsBest total_length shape places
+  pub printed : written ≡ printed (placed tree reading.spots places 1)
 
-abbrev pub y_path : ℕ → ℕ → List ℕ
-y_path graph k = graph ∷ k ∷ 1 ∷ 1 ∷ []
+-- how many vertices and pieces a plan has
+abbrev pub count_line : Plan → List ℕ
+count_line plan =
+    codes "drawing: " ++ decimal plan.vertices ++ codes " vertices, " ++ decimal (length plan.pieces) ++ codes " pieces\n"
 
--- the tree with node k moved to a place; all else as it was
-abbrev pub placed_node : ℕ → ℕ → Point → Tree → Tree
-placed_node graph k point tree =
-    put_value (y_path graph k) (Whole (number_text point.y)) (put_value (x_path graph k) (Whole (number_text point.x)) tree)
-
--- the tree with the first nodes moved to their places
-abbrev pub placed : ℕ → ℕ → Places → Tree → Tree
-placed graph zero places tree = tree
-placed graph (suc k) places tree = placed_node graph k (place places.xy k) (placed graph k places tree)
-
--- the text is that of a chain with so many nodes, whose graph stands at this place
-pub record IsChainText (text : List ℕ) (tree : Tree) (graph nodes : ℕ) : Type 0 where
-  pub spelled : Spells text tree
-  pub chain : IsChainTree tree graph nodes
-
--- a chain is written with node k at (k, 0), and these places are the best of its shape
-pub record DrawsChain (text : List ℕ) (tree : Tree) (graph nodes : ℕ) (places : Places) (written : List ℕ) : Type 0 where
-  pub within : length text ≤ limit_of Draw
-  pub chain : IsChainText text tree graph nodes
-  pub row : places ≡ row_places nodes
-  pub best : IsBest total_length (row_shape nodes) places
-  pub printed : written ≡ printed (placed graph nodes places tree)
+-- the vertices and pieces of the text's drawing are counted
+pub record CountsDrawing (text : List ℕ) (tree : Tree) (reading : Reading) (shape : Shape) (written : List ℕ) : Type 0 where
+  pub drawing : HoldsDrawing text tree reading shape
+  pub counted : written ≡ count_line reading.plan
 
 -- what is written for a text that the command accepts
 abbrev pub Output : Command → List ℕ → List ℕ → Type 0
-Output Draw text written = (tree : Tree) × (graph : ℕ) × (nodes : ℕ) × (places : Places) × DrawsChain text tree graph nodes places written
+Output Draw text written =
+    (length text ≤ limit_of Draw)
+    × (tree : Tree) × (reading : Reading) × (shape : Shape) × (places : Places) × DrawsRow text tree reading shape places written
+Output Check text written =
+    (length text ≤ limit_of Check) × (tree : Tree) × (reading : Reading) × (shape : Shape) × CountsDrawing text tree reading shape written
+
+-- the drawing that a text holds is one for the command
+abbrev pub IsBuilt : Command → Shape → Type 0
+IsBuilt Draw shape = IsRow shape
+IsBuilt Check shape = Unit {0}
 
 -- the command accepts the text
 abbrev pub IsValid : Command → List ℕ → Type 0
-IsValid Draw text = (length text ≤ limit_of Draw) × (tree : Tree) × (graph : ℕ) × (nodes : ℕ) × IsChainText text tree graph nodes
+IsValid command text =
+    (length text ≤ limit_of command)
+    × (tree : Tree) × (reading : Reading) × (shape : Shape) × HoldsDrawing text tree reading shape × IsBuilt command shape
+
+-- the text holds a drawing that the command does not draw yet
+abbrev pub IsNotYet : Command → List ℕ → Type 0
+IsNotYet command text =
+    (tree : Tree) × (reading : Reading) × (shape : Shape) × HoldsDrawing text tree reading shape × (IsBuilt command shape → ⊥)
 
 -- why the command refuses the text: the first reason that holds
 abbrev pub FirstFault : Command → List ℕ → Why → Type 0
-FirstFault Draw text TooLong = limit_of Draw < length text
-FirstFault Draw text (Gml fault) = (length text ≤ limit_of Draw) × no_tree.FirstFault text fault
-FirstFault Draw text NotYet = (length text ≤ limit_of Draw) × (tree : Tree) × Spells text tree × ((graph nodes : ℕ) → IsChainTree tree graph nodes → ⊥)
-
--- the refusal of a text that has no tree
-abbrev pub gml_refusal : Refusal GmlFault → Refusal Why
-gml_refusal (Fault fault) = Fault (Gml fault)
-gml_refusal NoMemory = NoMemory
+FirstFault command text why.TooLong = limit_of command < length text
+FirstFault command text why.NotYet = (length text ≤ limit_of command) × IsNotYet command text
+FirstFault command text (why.Gml fault) = (length text ≤ limit_of command) × FirstTextFault text (why.Gml fault)
+FirstFault command text (why.Draw fault) = (length text ≤ limit_of command) × FirstTextFault text (why.Draw fault)
+FirstFault command text (why.Shape fault) = (length text ≤ limit_of command) × FirstTextFault text (why.Shape fault)

@@ -7,6 +7,8 @@ ghost use Rattle.compact_main.specs.Commands.{texts_of, Asks, limit_of};
 pub enum Command {
     /// `draw --plain`: the shortest drawing of the text's shape, without a certificate.
     Draw,
+    /// `check`: whether the text holds a drawing, and how many vertices and pieces it has.
+    Check,
 }
 
 /// The command that the words ask for; `None` for every other list of words. No memory is taken.
@@ -15,6 +17,7 @@ pub fn command_of(words: &[String]) -> Option<Command>
     ensures none { IfNone result ((command : Command) → Asks (texts_of words.now) command → ⊥) }
 {
     match words {
+        [command] if command.as_str() == "check" => Some(Command::Check),
         [command, option] if command.as_str() == "draw" && option.as_str() == "--plain" => {
             Some(Command::Draw)
         }
@@ -29,6 +32,7 @@ impl Command {
     {
         match self {
             Command::Draw => 4_194_304,
+            Command::Check => 4_194_304,
         }
     }
 }

@@ -7,8 +7,8 @@ use io_ends::streams::{StdSink, StdSource};
 use std::process::ExitCode;
 use std::{env, io};
 
-pub mod chain;
 pub mod command;
+pub mod drawing;
 pub mod note;
 pub mod notify;
 pub mod run;

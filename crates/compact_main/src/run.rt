@@ -1,86 +1,81 @@
-ghost use Rattle.std.specs.Prelude.{◌≡◌, ◌≤◌, ◌↔◌, ℕ, List, Some, length, IfOk, OnOk};
+ghost use Rattle.std.specs.Prelude.{◌≡◌, ◌≤◌, ◌↔◌, ℕ, List, Some, length, IfOk};
 ghost use Rattle.compact_types.specs.Refusals.{IfFault};
 ghost use Rattle.io_ends.specs.Counts.{Rose};
 ghost use Rattle.compact_main.specs.declared.command.Command.{Command};
 ghost use Rattle.compact_main.specs.declared.status.Why.{Why};
 ghost use Rattle.compact_main.specs.Commands.{texts_of, Asks, limit_of};
 ghost use Rattle.compact_main.specs.Notes.{note_text, IsNoted};
-ghost use Rattle.compact_main.specs.Outputs.{Output, FirstFault, placed, placed_node, gml_refusal};
-ghost use Rattle.compact_main.specs.Rows.{row_places};
+ghost use Rattle.compact_main.specs.Outputs as outputs;
+ghost use Rattle.compact_main.specs.Outputs.{Output, FirstFault};
+ghost use Rattle.compact_main.specs.Rows as rows;
 ghost use Rattle.compact_main.specs.Runs.{IsDone, IsBrokenOff, IsRefused, Completes};
 
-use crate::chain::chain_of;
 use crate::command::{Command, command_of};
+use crate::drawing::{drawing_of, is_row};
 use crate::notify::notify;
 use crate::status::{Status, Why};
 use compact_types::items::Items;
-use compact_types::places::Point;
+use compact_types::places::{Places, Point};
+use compact_types::plan::Plan;
 use compact_types::refusal::{NoMemory, Refusal};
-use gml_print::number::whole_text;
-use gml_print::place::put_value;
+use gml_print::places::put_places;
 use gml_print::print::print_tree;
-use gml_text::fault::GmlFault;
-use gml_text::read::read_tree;
-use gml_text::tree::{Tree, Value};
 use io_ends::sink::Sink;
 use io_ends::source::Source;
 use io_ends::transfer::{ReadEnd, read_all, write_all};
+use itoa::Buffer;
 use std::alloc::Global;
 
-/// Moves node `node` of a chain to `place`, where its graph stands at `graph`.
-fn place_node(
-    alloc: Global,
-    tree: &mut Tree,
-    graph: u32,
-    node: u32,
-    place: Point,
-) -> Result<(), NoMemory>
-    ensures { OnOk result (tree.new ≡ placed_node graph node place tree.old) }
+/// The places (0, 0), (1, 0), .. of a row of vertices.
+fn row_places(alloc: Global, vertices: u32) -> Result<Places, NoMemory>
+    ensures { IfOk result (λ places. places ≡ rows.row_places vertices) }
 {
-    let x = Value::Whole(whole_text(alloc, place.x)?);
-    let y = Value::Whole(whole_text(alloc, place.y)?);
-    put_value(tree, &[graph, node, 1, 0], x);
-    put_value(tree, &[graph, node, 1, 1], y);
-    Ok(())
-}
-
-/// Moves the first `nodes` nodes of a chain to the places (0, 0), (1, 0), ..
-fn place_row(alloc: Global, tree: &mut Tree, graph: u32, nodes: usize) -> Result<(), NoMemory>
-    requires { nodes ≤ 1000 }
-    ensures { OnOk result (tree.new ≡ placed graph nodes (row_places nodes) tree.old) }
-{
-    for k in 0..nodes {
-        let place = Point { x: k as i64, y: 0 };
-        place_node(alloc, tree, graph, k as u32, place)?;
+    let mut xy = Items::new(alloc);
+    for k in 0..vertices {
+        xy.push(Point {
+            x: k as i64,
+            y: 0,
+        })?;
     }
-    Ok(())
+    Ok(Places { xy })
 }
 
-/// The shortest drawing of a chain in one row.
+/// The text of the tree with the shortest places of its shape, where that is a row.
 fn draw(alloc: Global, bytes: &[u8]) -> Result<Items<u8>, Refusal<Why>>
     requires { length bytes.now ≤ limit_of Command.Draw }
     ensures output { IfOk result (λ written. Output Command.Draw bytes.now written) }
     ensures fault { IfFault result (FirstFault Command.Draw bytes.now) }
 {
-    let mut tree = match read_tree(alloc, bytes) {
-        Ok(tree) => tree,
-        Err(refusal) => return Err(as_gml(refusal)),
-    };
-    let Some(chain) = chain_of(&tree) else {
+    let drawing = drawing_of(alloc, bytes)?;
+    if !is_row(&drawing.shape) {
         return Err(Refusal::Fault(Why::NotYet));
-    };
-    place_row(alloc, &mut tree, chain.place, chain.nodes)?;
+    }
+    let places = row_places(alloc, drawing.reading.plan.vertices)?;
+    let tree = put_places(alloc, &drawing.tree, &drawing.reading, &places, 1)?;
     Ok(print_tree(alloc, &tree)?)
 }
 
-/// The refusal of a text that has no tree.
-fn as_gml(refusal: Refusal<GmlFault>) -> Refusal<Why>
-    ensures { result ≡ gml_refusal refusal }
+/// How many vertices and pieces the text's drawing has.
+fn count(alloc: Global, bytes: &[u8]) -> Result<Items<u8>, Refusal<Why>>
+    requires { length bytes.now ≤ limit_of Command.Check }
+    ensures output { IfOk result (λ written. Output Command.Check bytes.now written) }
+    ensures fault { IfFault result (FirstFault Command.Check bytes.now) }
 {
-    match refusal {
-        Refusal::Fault(fault) => Refusal::Fault(Why::Gml(fault)),
-        Refusal::NoMemory => Refusal::NoMemory,
-    }
+    let drawing = drawing_of(alloc, bytes)?;
+    Ok(count_line(alloc, &drawing.reading.plan)?)
+}
+
+/// The line that says how many vertices and pieces the plan has.
+fn count_line(alloc: Global, plan: &Plan) -> Result<Items<u8>, NoMemory>
+    ensures { IfOk result (λ line. line ≡ outputs.count_line plan.now) }
+{
+    let mut buffer = Buffer::new();
+    let mut line = Items::from_slice(alloc, b"drawing: ")?;
+    line.extend_from_slice(buffer.format(plan.vertices).as_bytes())?;
+    line.extend_from_slice(b" vertices, ")?;
+    line.extend_from_slice(buffer.format(plan.pieces.len()).as_bytes())?;
+    line.extend_from_slice(b" pieces\n")?;
+    Ok(line)
 }
 
 /// What the command writes for a text, or why it refuses it.
@@ -91,6 +86,7 @@ fn answer(alloc: Global, command: Command, bytes: &[u8]) -> Result<Items<u8>, Re
 {
     match command {
         Command::Draw => draw(alloc, bytes),
+        Command::Check => count(alloc, bytes),
     }
 }
 

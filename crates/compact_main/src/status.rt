@@ -1,3 +1,5 @@
+use drawing_check::fault::ShapeFault;
+use drawing_read::fault::DrawFault;
 use gml_text::fault::GmlFault;
 
 /// Why a text is refused.
@@ -7,6 +9,10 @@ pub enum Why {
     TooLong,
     /// It is no GML text.
     Gml(GmlFault),
+    /// Its tree is no drawing.
+    Draw(DrawFault),
+    /// The drawing is not straight, not connected, or has a crossing.
+    Shape(ShapeFault),
     /// What it asks for is not built yet.
     NotYet,
 }
