@@ -27,7 +27,7 @@ list_all-map f (pair ∷ pairs) = ap (λ rest. f pair && rest) (list_all-map f p
 abbrev is_value_within : Value → Bool
 is_value_within = fold-Value Bool Bool Bool value_is_within pair_is_within list_is_within
 
-abbrev pairs_inside : Value → ℕ
+abbrev pub pairs_inside : Value → ℕ
 pairs_inside = fold-Value ℕ ℕ ℕ pairs_in_value pairs_with_value pairs_in_list
 
 tree_words : (tree : Tree) → is_within_grammar tree ≡ list_all is_pair_within (out-Tree tree).pairs
@@ -39,7 +39,7 @@ tree_count tree = fold_out-Tree ℕ ℕ ℕ pairs_in_value pairs_with_value pair
 inner_words : (tree : Tree) → is_value_within (Inner tree) ≡ is_within_grammar tree
 inner_words tree = ap is_value_within (sym (rolls-Inner tree)) ∙ fold-roll-Value Bool Bool Bool value_is_within pair_is_within list_is_within (layer.Inner tree)
 
-inner_count : (tree : Tree) → pairs_inside (Inner tree) ≡ pair_count tree
+pub inner_count : (tree : Tree) → pairs_inside (Inner tree) ≡ pair_count tree
 inner_count tree = ap pairs_inside (sym (rolls-Inner tree)) ∙ fold-roll-Value ℕ ℕ ℕ pairs_in_value pairs_with_value pairs_in_list (layer.Inner tree)
 
 pub readable_tree : (tree : Tree) → IsReadable tree → AreReadable (out-Tree tree).pairs
