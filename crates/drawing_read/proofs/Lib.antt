@@ -6,3 +6,4 @@ pub mod IdLemmas
 pub mod SmallLemmas
 pub mod RouteLemmas
 pub mod FaultOrder
+pub mod EndLemmas

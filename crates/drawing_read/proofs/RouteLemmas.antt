@@ -35,10 +35,10 @@ bends_below : (nodes : List Point) (route : Route) → length (bends_of nodes ro
 bends_below nodes route =
     omega (arith, before_below (place nodes route.target) (after_first_at (place nodes route.source) route.points), after_below (place nodes route.source) route.points)
 
-abbrev all_bends : List Point → List Route → List Point
+abbrev pub all_bends : List Point → List Route → List Point
 all_bends nodes routes = flat_map (bends_of nodes) routes
 
-bends_cons : (nodes : List Point) (route : Route) (routes : List Route) →
+pub bends_cons : (nodes : List Point) (route : Route) (routes : List Route) →
     length (all_bends nodes (route ∷ routes)) ≡ length (bends_of nodes route) + length (all_bends nodes routes)
 bends_cons nodes route routes = length-append (bends_of nodes route) (all_bends nodes routes)
 

@@ -1,6 +1,6 @@
 //! The reading of one graph.
 
-ghost use Rattle.std.specs.Prelude.{◌≡◌, ◌≤◌, ◌∷◌, [], ℤ, None, Some, length, IfOk, OnOk};
+ghost use Rattle.std.specs.Prelude.{◌≡◌, ◌<◌, ◌≤◌, ◌+◌, ◌^◌, ℤ, None, Some, length, All, IfOk, OnOk};
 ghost use Rattle.std.specs.Option.{option_or};
 ghost use Rattle.std.specs.Ordering.{int_eq};
 ghost use Rattle.indexmap.specs.IndexMap.{get};
@@ -81,4 +81,42 @@ fn checked_graph(alloc: Global, graph: &Graph) -> Result<Drawn, Refusal<DrawFaul
     }
     let drawn = draw_graph(alloc, &ids, graph)?;
     Ok(drawn)
+}
+
+/// The reading that these vertices, pieces and spots make.
+fn reading_of(drawn: Drawn, spots: Items<Spot>) -> Reading
+    requires few { length drawn.points < 2 ^ 32 }
+    requires ends { EndsAreVertices (length drawn.points) drawn.pieces }
+    ensures vertices { result.plan.vertices ≡ length drawn.points }
+    ensures pieces { result.plan.pieces ≡ drawn.pieces }
+    ensures places { result.places.xy ≡ drawn.points }
+    ensures spots { result.spots ≡ spots }
+{
+    let Drawn {
+        points,
+        spans: _,
+        pieces,
+    } = drawn;
+    let vertices = points.len() as u32;
+    let plan = Plan { vertices, pieces };
+    let places = Places { xy: points };
+    Reading {
+        plan,
+        places,
+        spots,
+    }
+}
+
+/// The reading of the graph at this place, or its first fault.
+pub(crate) fn graph_reading(alloc: Global, at: usize, pairs: &[Pair]) -> Result<Reading, Refusal<DrawFault>>
+    requires place { at ≤ most_pairs }
+    requires pairs { AreReadable pairs.now }
+    ensures reading { IfOk result (λ reading. IsGraphReading at pairs.now reading) }
+    ensures fault { IfFault result (λ fault. faults.graph_fault (written.graph_of pairs.now) ≡ Some fault) }
+{
+    let graph = written_graph(alloc, pairs)?;
+    let drawn = checked_graph(alloc, &graph)?;
+    let top = [at as u32];
+    let spots = graph_spots(alloc, &top, drawn.spans.as_slice(), pairs)?;
+    Ok(reading_of(drawn, spots))
 }
