@@ -1,6 +1,6 @@
 -- The pieces of a graph without a fault join vertices.
-use Rattle.std.proofs.Common.{◌≡◌, ℕ, zero, suc, ◌+◌, ◌<◌, ◌≤◌, ℤ, Bool, true, false, List, [], ◌∷◌, ◌++◌, length, map, Option, None, Some, refl, sym, ap, ◌∙◌, arith, length-append, pos, cond, ltb}
-use Rattle.std.specs.Prelude.{unwrap_or, option_and_then}
+use Rattle.std.proofs.Common.{◌≡◌, ℕ, zero, suc, ◌+◌, ◌<◌, ◌≤◌, ℤ, Bool, true, false, List, [], ◌∷◌, ◌++◌, length, map, Option, None, Some, refl, arith, length-append, pos, cond, ltb}
+use Rattle.std.specs.Prelude.{unwrap_or}
 use Rattle.std.specs.List.{range_with_len, position}
 use Rattle.std.specs.Option.{option_map, option_or}
 use Rattle.std.proofs.lemmas.Bool.Decides.{nat_tests}
@@ -77,8 +77,8 @@ some_nodes (node ∷ nodes) is = omega arith
 pub pieces_join_vertices : (graph : Graph) → graph_fault graph ≡ None → EndsAreVertices (length (points_in graph)) (pieces_in graph)
 pieces_join_vertices graph none =
     let good : id_fault graph.nodes ≡ None = or_none (id_fault graph.nodes)
-            (option_or (repeated_fault graph.nodes) (option_or (place_fault graph)
-                    (option_or (edge_fault (number_of_id (ids_of graph.nodes)) graph.edges) (size_fault (length (points_in graph)) (length (pieces_in graph)))))) none in
+    (option_or (repeated_fault graph.nodes) (option_or (place_fault graph)
+    (option_or (edge_fault (number_of_id (ids_of graph.nodes)) graph.edges) (size_fault (length (points_in graph)) (length (pieces_in graph)))))) none in
     let count = length-append (node_points graph.nodes) (all_bends (node_points graph.nodes) (routes_by (number_of_id (ids_of graph.nodes)) graph)) in
     let points = length-map graph.nodes (λ (node : Node). point_of node.place) in
     let ids = length-map graph.nodes id_of in

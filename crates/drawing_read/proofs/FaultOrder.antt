@@ -9,7 +9,6 @@ use Rattle.compact_types.specs.declared.plan.Piece.{Piece}
 use Rattle.drawing_read.specs.declared.fault.DrawFault.{DrawFault}
 use Rattle.drawing_read.specs.declared.fault.DrawFault.TheVariants.{RepeatedId}
 use Rattle.drawing_read.specs.declared.written.Graph.{Graph}
-use Rattle.drawing_read.specs.declared.route.Span.{Span}
 use Rattle.drawing_read.specs.Routes.{number_of_id, ids_of, points_by, spans_by, pieces_of, points_in, spans_in, pieces_in}
 use Rattle.drawing_read.specs.DrawFaults.{first_repeated, id_fault, repeated_fault, place_fault, edge_fault, size_fault, graph_fault}
 

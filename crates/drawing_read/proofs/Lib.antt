@@ -7,3 +7,5 @@ pub mod SmallLemmas
 pub mod RouteLemmas
 pub mod FaultOrder
 pub mod EndLemmas
+pub mod GraphLemmas
+pub mod ReadingLemmas

@@ -1,12 +1,10 @@
 -- How many vertices and pieces there are, and which vertices the pieces join.
-use Rattle.std.proofs.Common.{◌≡◌, ℕ, zero, suc, ◌+◌, ◌-◌, ◌<◌, ◌≤◌, ◌^◌, ℤ, Bool, true, false, cond, List, [], ◌∷◌, ◌++◌, length, take, drop, get_or, map, Option, None, Some, refl, sym, ap, ◌∙◌, subst, sum_by, All, arith, length-append, length-take, length-drop, add-one, lit<}
-use Rattle.std.specs.Prelude.{unwrap_or, slice_index_or}
-use Rattle.std.specs.List.{flat_map, range_with_len, position}
+use Rattle.std.proofs.Common.{◌≡◌, ℕ, zero, suc, ◌+◌, ◌-◌, ◌<◌, ◌≤◌, ◌^◌, ℤ, Bool, true, false, cond, List, [], ◌∷◌, length, take, drop, map, Option, refl, All, arith, length-append, length-take, length-drop}
+use Rattle.std.specs.List.{flat_map, range_with_len}
 use Rattle.std.proofs.lemmas.List.{length-map}
 use Rattle.std.proofs.lemmas.List.FromFn.{length-range_with_len}
 use Rattle.std.proofs.lemmas.List.Sums.{sum_by-cons}
 use Rattle.compact_types.specs.declared.places.Point.{Point}
-use Rattle.compact_types.specs.declared.plan.Piece.{Piece}
 use Rattle.compact_types.specs.Lookups.{place}
 use Rattle.drawing_read.specs.declared.written.Node.{Node}
 use Rattle.drawing_read.specs.declared.written.Edge.{Edge}
@@ -15,7 +13,7 @@ use Rattle.drawing_read.specs.declared.route.Route.{Route}
 use Rattle.drawing_read.specs.declared.route.Span.{Span}
 use Rattle.drawing_read.specs.Sizes.{most_pairs}
 use Rattle.drawing_read.specs.Passes.{point_count, IsSmall}
-use Rattle.drawing_read.specs.Routes.{begins_at, ends_at, after_first_at, before_last_at, bends_of, vertex_points, spans_from, spans_of, span_pieces, chain, pieces_of, point_of, route_of, routes_by, node_points, points_by, spans_by}
+use Rattle.drawing_read.specs.Routes.{begins_at, ends_at, after_first_at, before_last_at, bends_of, vertex_points, spans_from, spans_of, chain, pieces_of, point_of, route_of, routes_by, node_points, points_by, spans_by}
 
 after_below : (here : Point) (points : List Point) → length (after_first_at here points) ≤ length points
 after_below here points = by (begins_at here points)
@@ -46,14 +44,25 @@ bends_cons nodes route routes = length-append (bends_of nodes route) (all_bends 
 few_bends : (nodes : List Point) (look : ℤ → Option ℕ) (edges : List Edge) → length (all_bends nodes (map (route_of look) edges)) ≤ point_count edges
 few_bends nodes look [] = omega arith
 few_bends nodes look (edge ∷ edges) =
-    omega (arith, bends_cons nodes (route_of look edge) (map (route_of look) edges), bends_below nodes (route_of look edge), length-map edge.points point_of,
-        sum_by-cons (λ (edge : Edge). length edge.points) edge edges, few_bends nodes look edges)
+    omega (
+      arith,
+      bends_cons nodes (route_of look edge) (map (route_of look) edges),
+      bends_below nodes (route_of look edge),
+      length-map edge.points point_of,
+      sum_by-cons (λ (edge : Edge). length edge.points) edge edges,
+      few_bends nodes look edges,
+    )
 
 -- the vertices are few
 pub few_points : (look : ℤ → Option ℕ) (graph : Graph) → IsSmall graph → length (points_by look graph) ≤ most_pairs
 few_points look graph small =
-    omega (arith, length-append (node_points graph.nodes) (all_bends (node_points graph.nodes) (routes_by look graph)), length-map graph.nodes (λ (node : Node). point_of node.place),
-        few_bends (node_points graph.nodes) look graph.edges, small.vertices)
+    omega (
+      arith,
+      length-append (node_points graph.nodes) (all_bends (node_points graph.nodes) (routes_by look graph)),
+      length-map graph.nodes (λ (node : Node). point_of node.place),
+      few_bends (node_points graph.nodes) look graph.edges,
+      small.vertices,
+    )
 
 length-chain : (from : ℕ) (bends : List ℕ) (to : ℕ) → length (chain from bends to) ≡ length bends + 1
 length-chain from [] to = omega arith
@@ -63,16 +72,25 @@ pieces_from : (nodes : List Point) (first : ℕ) (routes : List Route) →
     length (pieces_of (spans_from nodes first routes)) ≡ length routes + length (all_bends nodes routes)
 pieces_from nodes first [] = refl
 pieces_from nodes first (route ∷ routes) =
-    omega (arith, bends_cons nodes route routes,
-        length-append (chain route.source (range_with_len first (length (bends_of nodes route))) route.target) (pieces_of (spans_from nodes (first + length (bends_of nodes route)) routes)),
-        length-chain route.source (range_with_len first (length (bends_of nodes route))) route.target, length-range_with_len first (length (bends_of nodes route)),
-        pieces_from nodes (first + length (bends_of nodes route)) routes)
+    omega (
+      arith,
+      bends_cons nodes route routes,
+      length-append (chain route.source (range_with_len first (length (bends_of nodes route))) route.target) (pieces_of (spans_from nodes (first + length (bends_of nodes route)) routes)),
+      length-chain route.source (range_with_len first (length (bends_of nodes route))) route.target,
+      length-range_with_len first (length (bends_of nodes route)),
+      pieces_from nodes (first + length (bends_of nodes route)) routes,
+    )
 
 -- the pieces can be counted, where the vertices are within their most
 pub few_pieces : (look : ℤ → Option ℕ) (graph : Graph) → IsSmall graph → length (points_by look graph) ≤ 1000 → length (pieces_of (spans_by look graph)) ≤ most_pairs + 1000
 few_pieces look graph small few =
-    omega (arith, pieces_from (node_points graph.nodes) (length (node_points graph.nodes)) (routes_by look graph),
-        length-append (node_points graph.nodes) (all_bends (node_points graph.nodes) (routes_by look graph)), length-map graph.edges (route_of look), small.edges)
+    omega (
+      arith,
+      pieces_from (node_points graph.nodes) (length (node_points graph.nodes)) (routes_by look graph),
+      length-append (node_points graph.nodes) (all_bends (node_points graph.nodes) (routes_by look graph)),
+      length-map graph.edges (route_of look),
+      small.edges,
+    )
 
 -- the numbers of the bends end below the number of vertices
 spans_end : (nodes : List Point) (first most : ℕ) (routes : List Route) → first + length (all_bends nodes routes) ≤ most →

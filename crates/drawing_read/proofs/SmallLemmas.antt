@@ -1,19 +1,17 @@
 -- What is written in a readable list is small.
-use Rattle.std.proofs.Common.{◌≡◌, ℕ, zero, suc, ◌+◌, ◌<◌, ◌≤◌, Bool, true, false, cond, List, [], ◌∷◌, length, get_or, map, Option, None, Some, refl, sym, ap, ◌∙◌, subst, sum_by, All, arith}
-use Rattle.std.specs.Prelude.{option_and_then, unwrap_or, codes, is_some}
+use Rattle.std.proofs.Common.{◌≡◌, ℕ, ◌+◌, ◌≤◌, Bool, true, false, cond, List, [], ◌∷◌, length, Option, None, Some, refl, ap, ◌∙◌, sum_by, arith}
+use Rattle.std.specs.Prelude.{option_and_then, unwrap_or, codes}
 use Rattle.std.specs.List.{filter_map, cons_option, find}
 use Rattle.std.specs.Option.{option_map}
 use Rattle.std.proofs.lemmas.List.Sums.{sum_by-cons, get_or-le-sum_by}
-use Rattle.gml_text.specs.declared.tree.Tree.{Tree, out-Tree}
+use Rattle.gml_text.specs.declared.tree.Tree.{out-Tree}
 use Rattle.gml_text.specs.declared.tree.Pair.{Pair}
 use Rattle.gml_text.specs.declared.tree.Value.{Value}
 use Rattle.gml_text.specs.declared.tree.Value.TheVariants.{Whole, Real, Text, Inner}
-use Rattle.drawing_read.specs.declared.written.Node.{Node}
 use Rattle.drawing_read.specs.declared.written.Edge.{Edge}
-use Rattle.drawing_read.specs.declared.written.Graph.{Graph}
-use Rattle.drawing_read.specs.Lookups.{has_key, list_in, list_under, first_under, first_list}
-use Rattle.drawing_read.specs.WrittenGraphs.{node_of, node_in, edge_of, edge_in, point_in, line_of, graph_of}
-use Rattle.drawing_read.specs.Sizes.{weight_of, most_pairs, AreReadable}
+use Rattle.drawing_read.specs.Lookups.{has_key, list_in, first_under, first_list}
+use Rattle.drawing_read.specs.WrittenGraphs.{node_in, edge_of, edge_in, point_in, line_of, graph_of}
+use Rattle.drawing_read.specs.Sizes.{weight_of, AreReadable}
 use Rattle.drawing_read.specs.Passes.{point_count, IsSmall}
 use Rattle.drawing_read.proofs.SizeLemmas.{pair_weight, tree_count, inner_count, pairs_inside}
 
@@ -88,6 +86,7 @@ edge_below pair edge is = by (has_key (codes "edge") pair) (list_in pair.value) 
         let same : edge_of list ≡ edge = cc in
         let e : length (edge_of list).points ≡ length edge.points = ap (λ (edge : Edge). length edge.points) same in
         omega (arith, edge_points list, value_below pair.value list found)
+
     by : (b : Bool) (o : Option (List Pair)) → list_in pair.value ≡ o → option_map edge_of (cond b o None) ≡ Some edge → length edge.points ≤ pairs_inside pair.value
     by true o found is = of_list o found is
     by false o found is = absurd (cc)

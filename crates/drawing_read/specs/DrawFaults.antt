@@ -17,7 +17,7 @@ use Rattle.drawing_read.specs.declared.written.Edge.{Edge}
 use Rattle.drawing_read.specs.declared.written.Graph.{Graph}
 use Rattle.drawing_read.specs.Lookups.{lists_under}
 use Rattle.drawing_read.specs.WrittenGraphs.{graph_of}
-use Rattle.drawing_read.specs.Routes.{fitting, ids_of, number_of_id, node_with, points_in, pieces_in}
+use Rattle.drawing_read.specs.Routes.{ids_of, number_of_id, node_with, points_in, pieces_in}
 
 abbrev pub is_absent : WholeNumber → Bool
 is_absent Absent = true
@@ -92,7 +92,7 @@ abbrev pub id_fault : List Node → Option DrawFault
 id_fault nodes =
     option_or (if nat_lt 0 (length nodes) then None else Some Empty)
     (option_or (option_map (λ n. NoId n) (position (λ node. is_absent node.id) nodes))
-        (option_map (λ n. BadId n) (position (λ node. is_unfit node.id) nodes)))
+    (option_map (λ n. BadId n) (position (λ node. is_unfit node.id) nodes)))
 
 -- a node with the id of an earlier one
 abbrev pub repeated_fault : List Node → Option DrawFault
@@ -120,9 +120,9 @@ abbrev pub graph_fault : Graph → Option DrawFault
 graph_fault graph =
     option_or (id_fault graph.nodes)
     (option_or (repeated_fault graph.nodes)
-        (option_or (place_fault graph)
-            (option_or (edge_fault (number_of_id (ids_of graph.nodes)) graph.edges)
-                (size_fault (length (points_in graph)) (length (pieces_in graph))))))
+    (option_or (place_fault graph)
+    (option_or (edge_fault (number_of_id (ids_of graph.nodes)) graph.edges)
+    (size_fault (length (points_in graph)) (length (pieces_in graph))))))
 
 -- the first fault where these are the graphs at the top
 abbrev pub fault_of : List (List Pair) → Option DrawFault

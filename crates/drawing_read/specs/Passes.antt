@@ -1,5 +1,5 @@
 -- What single passes of the reading answer.
-use Rattle.std.specs.Prelude.{◌≡◌, ℕ, ◌+◌, ◌<◌, ◌≤◌, ℤ, true, List, [], ◌∷◌, Option, None, Some, fold, length, sum_by, All, is_some, slice_get, codes}
+use Rattle.std.specs.Prelude.{◌≡◌, ℕ, ◌+◌, ◌<◌, ◌≤◌, true, List, [], Option, None, Some, fold, length, sum_by, All, is_some, slice_index_or, codes}
 use Rattle.std.specs.List.{position, cons_option}
 use Rattle.gml_text.specs.declared.tree.Pair.{Pair}
 use Rattle.drawing_read.specs.declared.written.Edge.{Edge}
@@ -40,5 +40,5 @@ pub record IsSmall (graph : Graph) : Type 0 where
 pub record IsOnlyGraph (pairs : List Pair) (at : ℕ) : Type 0 where
   pub within : at < length pairs
   pub place : position (λ pair. is_some (list_under (codes "graph") pair)) pairs ≡ Some at
-  pub only : (pair : Pair) → slice_get pairs at ≡ Some pair → lists_under (codes "graph") pairs ≡ cons_option (list_under (codes "graph") pair) []
-  pub there : (pair : Pair) → slice_get pairs at ≡ Some pair → is_some (list_under (codes "graph") pair) ≡ true
+  pub only : (d : Pair) → lists_under (codes "graph") pairs ≡ cons_option (list_under (codes "graph") (slice_index_or pairs at d)) []
+  pub there : (d : Pair) → is_some (list_under (codes "graph") (slice_index_or pairs at d)) ≡ true

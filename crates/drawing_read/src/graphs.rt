@@ -20,7 +20,7 @@ use crate::ids::number_ids;
 use crate::nodes::nodes_of;
 use crate::reading::{Reading, Spot};
 use crate::spots::graph_spots;
-use crate::vertices::{draw_graph, Drawn};
+use crate::vertices::{Drawn, draw_graph};
 use crate::written::Graph;
 use compact_types::items::Items;
 use compact_types::places::Places;
@@ -108,7 +108,11 @@ fn reading_of(drawn: Drawn, spots: Items<Spot>) -> Reading
 }
 
 /// The reading of the graph at this place, or its first fault.
-pub(crate) fn graph_reading(alloc: Global, at: usize, pairs: &[Pair]) -> Result<Reading, Refusal<DrawFault>>
+pub(crate) fn graph_reading(
+    alloc: Global,
+    at: usize,
+    pairs: &[Pair],
+) -> Result<Reading, Refusal<DrawFault>>
     requires place { at ≤ most_pairs }
     requires pairs { AreReadable pairs.now }
     ensures reading { IfOk result (λ reading. IsGraphReading at pairs.now reading) }

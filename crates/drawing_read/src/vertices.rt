@@ -58,7 +58,11 @@ fn too_many_pieces(count: usize) -> Option<DrawFault>
 }
 
 /// The vertices and the pieces of a graph whose ends are known, or that they are too many.
-pub(crate) fn draw_graph(alloc: Global, ids: &IndexMap<i64, u32>, graph: &Graph) -> Result<Drawn, Refusal<DrawFault>>
+pub(crate) fn draw_graph(
+    alloc: Global,
+    ids: &IndexMap<i64, u32>,
+    graph: &Graph,
+) -> Result<Drawn, Refusal<DrawFault>>
     requires { IsSmall graph.now }
     ensures points { IfOk result (λ drawn. drawn.points ≡ layout.points_by (get int_eq ids.now) graph.now) }
     ensures spans { IfOk result (λ drawn. drawn.spans ≡ layout.spans_by (get int_eq ids.now) graph.now) }

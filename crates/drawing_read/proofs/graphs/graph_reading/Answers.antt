@@ -1,7 +1,6 @@
-use Rattle.std.proofs.Common.{◌≡◌, ◌≤◌, ◌<◌, ◌+◌, ◌^◌, ◌∷◌, [], ℕ, List, None, Some, length, All, rules, sym, ◌∙◌, ap, subst}
+use Rattle.std.proofs.Common.{◌≡◌, ◌<◌, ◌+◌, ◌^◌, ◌∷◌, [], ℕ, List, Some, length, All, rules, sym, ◌∙◌, ap, subst}
 use Rattle.compact_types.specs.Refusals.{IfFault}
 use Rattle.compact_types.specs.Lookups.{EndsAreVertices}
-use Rattle.compact_types.specs.declared.places.Point.{Point}
 use Rattle.compact_types.specs.declared.plan.Piece.{Piece}
 use Rattle.drawing_read.specs.declared.written.Graph.{Graph}
 use Rattle.drawing_read.specs.declared.route.Span.{Span}

@@ -1,9 +1,8 @@
-use Rattle.std.proofs.Common.{◌≡◌, ◌≤◌, ℕ, List, length, rules, arith, ap, subst, sym, ◌∙◌, All, ◌+◌, ◌<◌, ◌^◌}
+use Rattle.std.proofs.Common.{◌≡◌, ◌≤◌, List, length, rules, arith, ap, subst, sym, All, ◌+◌, ◌<◌, ◌^◌}
 use Rattle.std.specs.Ordering.{int_eq}
 use Rattle.indexmap.specs.IndexMap.{get}
-use Rattle.std.proofs.lemmas.Grind.{common_steps}
 use Rattle.drawing_read.specs.declared.route.Span.{Span}
-use Rattle.drawing_read.specs.Routes.{points_by, spans_by, routes_by, node_points, pieces_of, vertex_points, spans_of}
+use Rattle.drawing_read.specs.Routes.{points_by, spans_by, pieces_of, vertex_points, spans_of}
 use Rattle.drawing_read.proofs.RouteLemmas.{few_points, few_pieces, spans_fit}
 use Rattle.drawing_read.proofs.vertices.draw_graph.Goals as goal
 
