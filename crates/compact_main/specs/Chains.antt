@@ -1,10 +1,14 @@
 -- Which trees are a chain of nodes in one row, from west to east.
-use Rattle.std.specs.Prelude.{◌≡◌, ℕ, zero, suc, ◌+◌, ◌-◌, ◌<◌, ◌≤◌, pos, ℤ, ◌-ℤ◌, ◌<ℤ◌, Bool, true, false, ◌&&◌, List, [], ◌∷◌, length, Option, None, Some, IfSome, IsSomeAnd, slice_get, codes, if◌then◌else◌, option_and_then, int_le}
+use Rattle.std.specs.Prelude.{◌≡◌, ℕ, zero, suc, ◌+◌, ◌-◌, ◌^◌, ◌<◌, ◌≤◌, pos, ℤ, ◌-ℤ◌, ◌<ℤ◌, Bool, true, false, ◌&&◌, List, [], ◌∷◌, length, Option, None, Some, IfSome, IsSomeAnd, slice_get, codes, if◌then◌else◌, option_and_then, int_le, count_by}
+use Rattle.std.specs.List.{position}
 use Rattle.std.specs.Str.{bytes_eq}
 use Rattle.gml_text.specs.declared.tree.Tree.{Tree, out-Tree}
 use Rattle.gml_text.specs.declared.tree.Pair.{Pair}
 use Rattle.gml_text.specs.declared.tree.Value.{Value}
 use Rattle.gml_text.specs.declared.tree.Value.TheVariants.{Whole, Real, Text, Inner}
+use Rattle.gml_text.specs.declared.number.NumeralKind.{NumeralKind}
+use Rattle.gml_text.specs.declared.number.NumeralKind.TheVariants as kinds
+use Rattle.gml_text.specs.NumeralKinds.{kind_of}
 use Rattle.gml_text.specs.Numerals.{value_of_whole}
 use Rattle.compact_main.specs.declared.chain.Node.{Node}
 
@@ -19,9 +23,15 @@ abbrev pub within_magnitude : ℤ → Option ℤ
 within_magnitude z =
     if int_le (pos 0 -ℤ pos most_magnitude) z && int_le z (pos most_magnitude) then Some z else None
 
+-- the number of a word of this kind
+abbrev pub number_of_kind : Option NumeralKind → List ℕ → Option ℤ
+number_of_kind None word = None
+number_of_kind (Some kinds.Whole) word = within_magnitude (value_of_whole word)
+number_of_kind (Some kinds.Real) word = None
+
 -- the number that a value is, where it is a whole numeral within the magnitude
 abbrev pub number_of : Value → Option ℤ
-number_of (Whole word) = within_magnitude (value_of_whole word)
+number_of (Whole word) = number_of_kind (kind_of word) word
 number_of (Real word) = None
 number_of (Text inside) = None
 number_of (Inner tree) = None
@@ -48,15 +58,15 @@ both_of first second (Inner tree) = both_in first second (out-Tree tree).pairs
 abbrev pub numbers_of : List ℕ → List ℕ → Value → Option (ℤ × ℤ)
 numbers_of first second value =
     option_and_then (λ both. option_and_then (λ a. option_and_then (λ b. Some (a, b)) (number_of both.1)) (number_of both.0))
-        (both_of first second value)
+    (both_of first second value)
 
 -- a node: a list of just an id and graphics, which are a list of just an x and a y
 abbrev pub node_of : Pair → Option Node
 node_of pair =
     option_and_then (λ value. option_and_then (λ parts. option_and_then (λ id. option_and_then
-        (λ xy. Some (record { id = id; x = xy.0; y = xy.1 }))
-        (numbers_of (codes "x") (codes "y") parts.1)) (number_of parts.0))
-        (both_of (codes "id") (codes "graphics") value)) (value_under (codes "node") pair)
+    (λ xy. Some (record { id = id; x = xy.0; y = xy.1 }))
+    (numbers_of (codes "x") (codes "y") parts.1)) (number_of parts.0))
+    (both_of (codes "id") (codes "graphics") value)) (value_under (codes "node") pair)
 
 -- the ids of the ends of an edge: a list of just a source and a target
 abbrev pub ends_of : Pair → Option (ℤ × ℤ)
@@ -94,18 +104,24 @@ pub record IsChain (pairs : List Pair) (nodes : ℕ) : Type 0 where
   pub row : AreRow pairs nodes
   pub joined : AreJoined pairs nodes
 
--- the pairs of the one graph, where the tree is just that
-abbrev pub graph_in : List Pair → Option (List Pair)
-graph_in [] = None
-graph_in (p ∷ []) = option_and_then list_in (value_under (codes "graph") p)
-  where
-    list_in : Value → Option (List Pair)
-    list_in (Whole word) = None
-    list_in (Real word) = None
-    list_in (Text inside) = None
-    list_in (Inner tree) = Some (out-Tree tree).pairs
-graph_in (p ∷ q ∷ pairs) = None
+-- the pair has the key of a graph
+abbrev pub is_graph : Pair → Bool
+is_graph pair = bytes_eq pair.key (codes "graph")
 
--- the tree is one graph, which is a chain
-abbrev pub IsChainTree : Tree → ℕ → Type 0
-IsChainTree tree nodes = IsSomeAnd (graph_in (out-Tree tree).pairs) (λ pairs. IsChain pairs nodes)
+-- the pairs of a value that is a list
+abbrev pub list_in : Value → Option (List Pair)
+list_in (Whole word) = None
+list_in (Real word) = None
+list_in (Text inside) = None
+list_in (Inner tree) = Some (out-Tree tree).pairs
+
+abbrev pub list_at : List Pair → ℕ → Option (List Pair)
+list_at pairs place = option_and_then (λ pair. list_in pair.value) (slice_get pairs place)
+
+-- the one graph at the top stands at this place and is a chain; pairs with other keys may stand beside it
+pub record IsChainTree (tree : Tree) (place nodes : ℕ) : Type 0 where
+  pub one_graph : count_by is_graph (out-Tree tree).pairs ≡ 1
+  pub placed : position is_graph (out-Tree tree).pairs ≡ Some place
+  -- a text within the limit has fewer pairs than this
+  pub near : place < 2 ^ 32
+  pub chain : IsSomeAnd (list_at (out-Tree tree).pairs place) (λ pairs. IsChain pairs nodes)

@@ -1,8 +1,8 @@
 pub mod Chains
-pub mod Plain
 pub mod Views
 pub mod Commands
 pub mod Rows
 pub mod Outputs
 pub mod Runs
 pub mod Statuses
+pub mod Notes

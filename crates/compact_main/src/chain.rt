@@ -1,15 +1,12 @@
-ghost use Rattle.std.specs.Prelude.{◌≡◌, ◌≤◌, ◌<◌, ℕ, true, length, Some, ◌↔◌, IsTrue, IfSome, IfNone, IsSomeAnd, pos, suc, ◌+◌};
-ghost use Rattle.std.specs.List.{list_all};
+ghost use Rattle.std.specs.Prelude.{◌≡◌, ◌+◌, ◌<◌, ◌≤◌, ◌↔◌, ℕ, suc, pos, length, count_by, Some, IsTrue, IfSome, IfNone, IsSomeAnd};
+ghost use Rattle.std.specs.List.{position};
+ghost use Rattle.std.specs.Option.{option_copied};
 ghost use Rattle.compact_main.specs.Chains as chains;
 ghost use Rattle.compact_main.specs.Chains.{IsEastOf, AreNumbered, AreRow, AreJoined, IsChain, IsChainTree};
-ghost use Rattle.gml_text.specs.declared.tree.Tree.{out-Tree};
-ghost use Rattle.std.specs.Option.{option_copied};
-ghost use Rattle.gml_text.specs.Trees.{is_plain};
-ghost use Rattle.compact_main.specs.Plain.{is_plain_value, is_plain_pair};
-ghost use Rattle.compact_main.specs.Views.{both_now, ArePlain};
+ghost use Rattle.compact_main.specs.Views.{both_now};
 
 use compact_types::items::Items;
-use gml_text::number::whole;
+use gml_text::number::{NumeralKind, numeral_kind, whole};
 use gml_text::tree::{Pair, Tree, Value};
 
 /// The greatest magnitude of a coordinate that is read.
@@ -27,27 +24,33 @@ pub struct Node {
 }
 
 /// The number that a value is, where it is a whole numeral within the magnitude.
+#[tactic(auto, using(gml_text::proofs::NumeralLaws::whole_of_kind))]
 fn number_of(value: &Value) -> Option<i64>
-    requires { is_plain_value value.now ≡ true }
     ensures { result ≡ chains.number_of value.now }
 {
-    match value {
-        Value::Whole(word) => {
-            let number = whole(word.as_slice())?;
-            if -MOST_MAGNITUDE <= number && number <= MOST_MAGNITUDE {
-                Some(number)
-            } else {
-                None
-            }
-        }
+    let Value::Whole(word) = value else {
+        return None;
+    };
+    match numeral_kind(word.as_slice()) {
+        Some(NumeralKind::Whole) => within_magnitude(whole(word.as_slice())?),
         _ => None,
+    }
+}
+
+/// The number, where it is within the magnitude.
+fn within_magnitude(number: i64) -> Option<i64>
+    ensures { result ≡ chains.within_magnitude number }
+{
+    if -MOST_MAGNITUDE <= number && number <= MOST_MAGNITUDE {
+        Some(number)
+    } else {
+        None
     }
 }
 
 /// The value of the pair, where it has this key.
 fn value_under<'a>(key: &[u8], pair: &'a Pair) -> Option<&'a Value>
-    ensures value { option_copied result ≡ chains.value_under key.now pair.now }
-    ensures plain { is_plain_pair pair.now ≡ true → IfSome result (λ value. is_plain_value value.now ≡ true) }
+    ensures { option_copied result ≡ chains.value_under key.now pair.now }
 {
     if pair.key.as_slice() == key {
         Some(&pair.value)
@@ -58,8 +61,7 @@ fn value_under<'a>(key: &[u8], pair: &'a Pair) -> Option<&'a Value>
 
 /// The values of two pairs with these keys, where `value` is a list of just these two.
 fn both_of<'a>(first: &[u8], second: &[u8], value: &'a Value) -> Option<(&'a Value, &'a Value)>
-    ensures values { both_now result ≡ chains.both_of first.now second.now value.now }
-    ensures plain { is_plain_value value.now ≡ true → IfSome result ArePlain }
+    ensures { both_now result ≡ chains.both_of first.now second.now value.now }
 {
     let Value::Inner(tree) = value else {
         return None;
@@ -72,7 +74,6 @@ fn both_of<'a>(first: &[u8], second: &[u8], value: &'a Value) -> Option<(&'a Val
 
 /// The two numbers of a list of just these two pairs.
 fn numbers_of(first: &[u8], second: &[u8], value: &Value) -> Option<(i64, i64)>
-    requires { is_plain_value value.now ≡ true }
     ensures { result ≡ chains.numbers_of first.now second.now value.now }
 {
     let (a, b) = both_of(first, second, value)?;
@@ -81,7 +82,6 @@ fn numbers_of(first: &[u8], second: &[u8], value: &Value) -> Option<(i64, i64)>
 
 /// The node that a pair is: a list of just an id and graphics, which are a list of just an x and a y.
 fn node_of(pair: &Pair) -> Option<Node>
-    requires { is_plain_pair pair.now ≡ true }
     ensures { result ≡ chains.node_of pair.now }
 {
     let value = value_under(b"node", pair)?;
@@ -93,7 +93,6 @@ fn node_of(pair: &Pair) -> Option<Node>
 
 /// The ids of the ends of an edge: a list of just a source and a target.
 fn ends_of(pair: &Pair) -> Option<(i64, i64)>
-    requires { is_plain_pair pair.now ≡ true }
     ensures { result ≡ chains.ends_of pair.now }
 {
     numbers_of(b"source", b"target", value_under(b"edge", pair)?)
@@ -101,7 +100,6 @@ fn ends_of(pair: &Pair) -> Option<(i64, i64)>
 
 /// Whether the pair is the node of this number.
 fn is_numbered(pair: &Pair, number: usize) -> bool
-    requires plain { is_plain_pair pair.now ≡ true }
     requires small { number ≤ 1000 }
     ensures { IsTrue result ↔ IsSomeAnd (chains.node_of pair.now) (λ node. node.id ≡ pos number) }
 {
@@ -110,8 +108,6 @@ fn is_numbered(pair: &Pair, number: usize) -> bool
 
 /// Whether both pairs are nodes, the second to the east of the first.
 fn is_row(pair: &Pair, next: &Pair) -> bool
-    requires plain { is_plain_pair pair.now ≡ true }
-    requires plain_next { is_plain_pair next.now ≡ true }
     ensures { IsTrue result ↔ IsSomeAnd (chains.node_of pair.now)
         (λ a. IsSomeAnd (chains.node_of next.now) (λ b. IsEastOf a b)) }
 {
@@ -123,7 +119,6 @@ fn is_row(pair: &Pair, next: &Pair) -> bool
 
 /// Whether the pair is an edge from the node of this number to the next.
 fn joins_next(pair: &Pair, number: usize) -> bool
-    requires plain { is_plain_pair pair.now ≡ true }
     requires small { number ≤ 1000 }
     ensures { IsTrue result ↔ (chains.ends_of pair.now ≡ Some (pos number, pos (suc number))) }
 {
@@ -132,7 +127,6 @@ fn joins_next(pair: &Pair, number: usize) -> bool
 
 /// Whether the first `nodes` pairs are nodes, numbered in order.
 fn are_numbered(pairs: &[Pair], nodes: usize) -> bool
-    requires plain { list_all is_plain_pair pairs.now ≡ true }
     requires within { nodes ≤ length pairs.now }
     requires small { nodes ≤ 1000 }
     ensures { IsTrue result ↔ AreNumbered pairs.now nodes }
@@ -147,7 +141,6 @@ fn are_numbered(pairs: &[Pair], nodes: usize) -> bool
 
 /// Whether the first `nodes` pairs are nodes that go from west to east on one height.
 fn are_row(pairs: &[Pair], nodes: usize) -> bool
-    requires plain { list_all is_plain_pair pairs.now ≡ true }
     requires some { 0 < nodes }
     requires within { nodes ≤ length pairs.now }
     ensures { IsTrue result ↔ AreRow pairs.now nodes }
@@ -162,7 +155,6 @@ fn are_row(pairs: &[Pair], nodes: usize) -> bool
 
 /// Whether the pairs behind the nodes are edges, from each node to the next.
 fn are_joined(pairs: &[Pair], nodes: usize) -> bool
-    requires plain { list_all is_plain_pair pairs.now ≡ true }
     requires some { 0 < nodes }
     requires within { nodes + nodes ≤ length pairs.now + 1 }
     requires small { nodes ≤ 1000 }
@@ -176,23 +168,39 @@ fn are_joined(pairs: &[Pair], nodes: usize) -> bool
     true
 }
 
-/// The pairs of the one graph, where the tree is just that.
-fn graph_in(tree: &Tree) -> Option<&Items<Pair>>
-    ensures pairs { option_copied result ≡ chains.graph_in (out-Tree tree.now).pairs }
-    ensures plain { is_plain tree.now ≡ true → IfSome result (λ pairs. list_all is_plain_pair pairs.now ≡ true) }
+/// Whether the pair has the key of a graph.
+fn is_graph(pair: &Pair) -> bool
+    ensures { result ≡ chains.is_graph pair.now }
 {
-    match tree.pairs.as_slice() {
-        [graph] => match value_under(b"graph", graph)? {
-            Value::Inner(list) => Some(&list.pairs),
-            _ => None,
-        },
+    pair.key.as_slice() == b"graph".as_slice()
+}
+
+/// Whether just one pair at the top has the key of a graph.
+fn has_one_graph(pairs: &[Pair]) -> bool
+    ensures { IsTrue result ↔ (count_by chains.is_graph pairs.now ≡ 1) }
+{
+    pairs.iter().filter(|pair| is_graph(pair)).count() == 1
+}
+
+/// The place of the first graph.
+fn graph_place(pairs: &[Pair]) -> Option<usize>
+    ensures { result ≡ position chains.is_graph pairs.now }
+{
+    pairs.iter().position(|pair| is_graph(pair))
+}
+
+/// The pairs of the list at this place.
+fn list_at(pairs: &[Pair], place: usize) -> Option<&Items<Pair>>
+    ensures { option_copied result ≡ chains.list_at pairs.now place }
+{
+    match &pairs.get(place)?.value {
+        Value::Inner(list) => Some(&list.pairs),
         _ => None,
     }
 }
 
 /// Whether the pairs are a chain of so many nodes.
 fn is_chain(pairs: &[Pair], nodes: usize) -> bool
-    requires plain { list_all is_plain_pair pairs.now ≡ true }
     requires some { 0 < nodes }
     requires whole { length pairs.now + 1 ≡ nodes + nodes }
     ensures { IsTrue result ↔ IsChain pairs.now nodes }
@@ -203,13 +211,18 @@ fn is_chain(pairs: &[Pair], nodes: usize) -> bool
         && are_joined(pairs, nodes)
 }
 
-/// How many nodes the tree's chain has; `None` where the tree is no chain.
-pub fn chain_length(tree: &Tree) -> Option<usize>
-    requires { is_plain tree.now ≡ true }
-    ensures some { IfSome result (λ nodes. IsChainTree tree.now nodes) }
-    ensures none { IfNone result ((nodes : ℕ) → IsChainTree tree.now nodes → ⊥) }
+/// Where the graph of a chain tree stands at the top, and how many nodes its chain has.
+#[derive(Clone, Copy, Debug, PartialEq, Eq)]
+pub struct Chain {
+    pub place: u32,
+    pub nodes: usize,
+}
+
+/// The number of nodes of a chain; `None` where the pairs are none.
+fn chain_length(pairs: &[Pair]) -> Option<usize>
+    ensures some { IfSome result (λ nodes. IsChain pairs.now nodes) }
+    ensures none { IfNone result ((nodes : ℕ) → IsChain pairs.now nodes → ⊥) }
 {
-    let pairs = graph_in(tree)?.as_slice();
     if pairs.len() % 2 == 0 {
         return None;
     }
@@ -219,4 +232,25 @@ pub fn chain_length(tree: &Tree) -> Option<usize>
     } else {
         None
     }
+}
+
+/// The chain that a tree is; `None` where it is none.
+pub fn chain_of(tree: &Tree) -> Option<Chain>
+    ensures some { IfSome result (λ chain. IsChainTree tree.now chain.place chain.nodes) }
+    ensures none { IfNone result ((place nodes : ℕ) → IsChainTree tree.now place nodes → ⊥) }
+{
+    let pairs = tree.pairs.as_slice();
+    if !has_one_graph(pairs) {
+        return None;
+    }
+    let place = graph_place(pairs)?;
+    let list = list_at(pairs, place)?;
+    let nodes = chain_length(list.as_slice())?;
+    if place > u32::MAX as usize {
+        return None;
+    }
+    Some(Chain {
+        place: place as u32,
+        nodes,
+    })
 }

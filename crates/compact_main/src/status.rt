@@ -1,8 +1,12 @@
+use gml_text::fault::GmlFault;
+
 /// Why a text is refused.
 #[derive(Clone, Copy, Debug, PartialEq, Eq)]
 pub enum Why {
     /// It has more bytes than the command reads.
     TooLong,
+    /// It is no GML text.
+    Gml(GmlFault),
     /// What it asks for is not built yet.
     NotYet,
 }

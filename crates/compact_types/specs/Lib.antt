@@ -4,6 +4,7 @@ pub mod Refusals
 pub mod Lookups
 pub mod Ways
 pub mod Segments
+pub mod Connected
 pub mod Drawings
 pub mod Sums
 pub mod Lengths

@@ -2,7 +2,6 @@
 use Rattle.std.specs.Prelude.{◌≡◌, Result, Ok, Err}
 use Rattle.compact_types.specs.declared.refusal.Refusal.{Refusal}
 use Rattle.compact_types.specs.declared.refusal.Refusal.TheVariants.{Fault, NoMemory}
-use Rattle.compact_types.specs.declared.refusal.NoMemory as refused
 
 -- the answer is the expected one, success or fault, unless memory was refused
 abbrev pub Gives : {T F : Type 0} → Result T (Refusal F) → Result T F → Type 0

@@ -4,7 +4,9 @@
 //! and what an answer with a refusal says.
 #![tactic(auto)]
 
+pub mod bests;
 pub mod items;
 pub mod places;
 pub mod plan;
 pub mod refusal;
+pub mod segment;

@@ -1,2 +1,4 @@
+pub mod Alike
 pub mod Printed
+pub mod ReadsBack
 pub mod Numerals

@@ -42,10 +42,10 @@ indentation_deeper zero = refl
 indentation_deeper (suc depth) = ap (λ spaces. space ∷ space ∷ spaces) (indentation_deeper depth)
 
 -- what is written for a list, one piece after another
-pub bracketed_pieces : (depth : ℕ) (before opened lines written spaces indented closed : List ℕ) →
+pub bracketed_pieces : (depth : ℕ) (before opened lines written spaces closed : List ℕ) →
     opened ≡ before ++ opening_bracket ∷ line_feed ∷ [] → written ≡ opened ++ lines → spaces ≡ indentation depth →
-    indented ≡ written ++ spaces → closed ≡ indented ++ closing_bracket ∷ [] → closed ≡ before ++ bracketed depth lines
-bracketed_pieces depth before opened lines written spaces indented closed o w s i c = rw (c, i, s, w, o) (simp append_assoc)
+    closed ≡ written ++ spaces ++ closing_bracket ∷ [] → closed ≡ before ++ bracketed depth lines
+bracketed_pieces depth before opened lines written spaces closed o w s c = rw (c, s, w, o) (simp append_assoc)
 
 -- the text of a tree made of these pairs
 pub printed_at_pairs : (pairs : List Pair) (depth : ℕ) →

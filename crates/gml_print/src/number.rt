@@ -20,8 +20,7 @@ pub fn whole_text(alloc: Global, number: i64) -> Result<Items<u8>, NoMemory>
 pub fn text_has_its_number()
     ensures numeral { (number : ℤ) → FitsSigned w64 number → is_whole_numeral (number_text number) ≡ true }
     ensures value { (number : ℤ) → FitsSigned w64 number → value_of_whole (number_text number) ≡ number }
-{
-}
+{}
 
 #[cfg(test)]
 mod tests {

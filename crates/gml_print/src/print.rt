@@ -1,5 +1,5 @@
 ghost use Rattle.std.specs.Prelude.{◌≡◌, ℕ, List, [], ◌∷◌, ◌++◌, IfOk, OnOk};
-ghost use Rattle.gml_print.specs.Printing.{space, printed, printed_at, pair_text, value_text, quoted, indentation};
+ghost use Rattle.gml_print.specs.Printing.{space, line_feed, opening_bracket, closing_bracket, printed, printed_at, pair_text, value_text, quoted, indentation};
 
 use compact_types::items::Items;
 use compact_types::refusal::NoMemory;
@@ -57,12 +57,9 @@ fn write_value(value: &Value, indent: &mut Items<u8>, text: &mut Items<u8>) -> R
         Value::Whole(word) | Value::Real(word) => text.extend_from_slice(word.as_slice()),
         Value::Text(inside) => write_string(inside.as_slice(), text),
         Value::Inner(tree) => {
-            text.extend_from_slice(b"[\n")?;
-            indent.extend_from_slice(b"  ")?;
+            open_list(indent, text)?;
             write_tree(tree, indent, text)?;
-            shorten(indent);
-            text.extend_from_slice(indent.as_slice())?;
-            text.push(b']')
+            close_list(indent, text)
         }
     }
 }
@@ -76,12 +73,26 @@ fn write_string(inside: &[u8], text: &mut Items<u8>) -> Result<(), NoMemory>
     text.push(b'"')
 }
 
-/// Takes the two spaces of one depth off.
-fn shorten(indent: &mut Items<u8>)
-    ensures { (before : List ℕ) → indent.old ≡ before ++ space ∷ space ∷ [] → indent.new ≡ before }
+/// Ends the line of a key with `[`; the lines that follow stand one depth deeper.
+fn open_list(indent: &mut Items<u8>, text: &mut Items<u8>) -> Result<(), NoMemory>
+    ensures indent { OnOk result (indent.new ≡ indent.old ++ space ∷ space ∷ []) }
+    ensures text { OnOk result (text.new ≡ text.old ++ opening_bracket ∷ line_feed ∷ []) }
+{
+    text.extend_from_slice(b"[\n")?;
+    indent.extend_from_slice(b"  ")
+}
+
+/// Goes back to the depth before a list, and adds `]` there.
+fn close_list(indent: &mut Items<u8>, text: &mut Items<u8>) -> Result<(), NoMemory>
+    ensures indent { (outer : List ℕ) → indent.old ≡ outer ++ space ∷ space ∷ [] →
+        OnOk result (indent.new ≡ outer) }
+    ensures text { (outer : List ℕ) → indent.old ≡ outer ++ space ∷ space ∷ [] →
+        OnOk result (text.new ≡ text.old ++ outer ++ closing_bracket ∷ []) }
 {
     indent.pop();
     indent.pop();
+    text.extend_from_slice(indent.as_slice())?;
+    text.push(b']')
 }
 
 #[cfg(test)]
@@ -117,7 +128,7 @@ mod tests {
             pair(alloc, b"version", version)?,
             pair(alloc, b"graph", graph(alloc)?)?,
             pair(alloc, b"scale", scale)?,
-            pair(alloc, b"label", label)?
+            pair(alloc, b"label", label)?,
         ]?;
         Ok(Tree {
             pairs: Items::from_vec(pairs),

@@ -1,9 +1,8 @@
 -- The function that tells the kind of a word agrees with the definitions of numerals.
 use Rattle.std.specs.Prelude.{◌==◌}
-use Rattle.std.proofs.Common.{◌≡◌, ℕ, ◌+◌, ◌<◌, Bool, true, false, cond, List, [], ◌∷◌, ◌++◌, length, Option, None, Some, refl, sym, ap, ◌∙◌, ◌⊎◌, inl, inr, arith, ◌&&◌, ◌||◌, subst}
+use Rattle.std.proofs.Common.{◌≡◌, ℕ, ◌<◌, Bool, true, false, cond, List, [], ◌∷◌, ◌++◌, length, Option, None, Some, refl, sym, ap, ◌∙◌, ◌⊎◌, inl, inr, arith, ◌&&◌, ◌||◌}
 use Rattle.std.specs.Option.{is_some, IsSome}
 use Rattle.std.proofs.lemmas.List.{append-nil}
-use Rattle.std.proofs.lemmas.Bool.Decides.{nat_tests}
 use Rattle.gml_text.specs.declared.number.NumeralKind.{NumeralKind}
 use Rattle.gml_text.specs.declared.number.NumeralKind.TheVariants.{Whole, Real}
 use Rattle.gml_text.specs.Numerals.{Sign, no_sign, plus, minus, Exponent, Numeral, HasParts, IsNumeral, HasNoPoint, value_of_whole, whole_value, with_sign, digits_value, IsRealNumeral, is_whole_numeral, are_digits, is_sign, sign_text, numeral_text, fraction_digits}
@@ -26,7 +25,7 @@ by_kind true real kind h = (refl, h)
 by_kind false real kind h = cc
 
 -- a word that has a kind has parts
-parts-kind_of : (word : List ℕ) (kind : NumeralKind) → kind_of word ≡ Some kind → HasParts word (parts_of word)
+pub parts-kind_of : (word : List ℕ) (kind : NumeralKind) → kind_of word ≡ Some kind → HasParts word (parts_of word)
 unfolding kind_of
 parts-kind_of word kind h =
     parts_from_tests word (by_kind (has_digit (parts_of word) && is_exponent (parts_of word).exponent) (is_real (parts_of word)) kind h).0
@@ -66,8 +65,8 @@ whole_digits : (word : List ℕ) → is_whole_numeral word ≡ true → are_digi
 whole_digits [] h = h
 whole_digits (b ∷ bytes) h =
     elim (is_sign b) as (λ s. cond s (are_digits bytes) (are_digits (b ∷ bytes)) ≡ true → are_digits (cond s bytes (b ∷ bytes)) ≡ true) [
-      true ↦ λ e. e
-    | false ↦ λ e. e
+      | true ↦ λ e. e
+      | false ↦ λ e. e
     ] h
 
 -- a whole numeral has parts, neither a point nor an exponent among them

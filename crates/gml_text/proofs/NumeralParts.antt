@@ -1,14 +1,12 @@
 -- A numeral has one way to be split into its parts.
-use Rattle.std.proofs.Common.{◌≡◌, ℕ, suc, ◌+◌, ◌<◌, Bool, true, false, cond, List, [], ◌∷◌, ◌++◌, length, take, drop, Option, None, Some, refl, sym, ap, add_comm, add-one, ◌∙◌, ◌⊎◌, inl, inr, arith, eqb, ◌&&◌, ◌||◌}
+use Rattle.std.proofs.Common.{◌≡◌, ℕ, ◌+◌, ◌<◌, Bool, true, false, cond, List, [], ◌∷◌, ◌++◌, length, take, Option, None, Some, refl, sym, ap, add_comm, add-one, ◌∙◌, ◌⊎◌, inl, inr, arith, ◌&&◌, ◌||◌}
 use Rattle.std.specs.Prelude.{◌==◌, nat_lt}
-use Rattle.std.specs.List.{list_all, prefix_len, take_while}
-use Rattle.std.specs.Option.{is_some, IsSome}
+use Rattle.std.specs.List.{list_all, prefix_len}
 use Rattle.std.proofs.lemmas.List.{take-append-drop, take_at, drop_at}
 use Rattle.std.proofs.lemmas.Bool.Decides.{nat_tests}
-use Rattle.std.proofs.lemmas.Grind.{common_steps}
 use Rattle.gml_text.specs.Bytes.{is_digit}
 use Rattle.gml_text.specs.Numerals.{Sign, no_sign, plus, minus, Exponent, Numeral, HasParts, IsNumeral, IsExponent, sign_text, fraction_digits, fraction_text, exponent_text, numeral_text, are_digits, is_sign}
-use Rattle.gml_text.specs.NumeralKinds.{sign_of, after_sign, front_digits, after_digits, fraction_of, after_fraction, exponent_of, parts_after, parts_of, is_exponent, has_digit, is_real, kind_of_parts}
+use Rattle.gml_text.specs.NumeralKinds.{sign_of, after_sign, front_digits, after_digits, fraction_of, after_fraction, exponent_of, parts_after, parts_of, is_exponent, has_digit}
 
 pub and_true : (a b : Bool) → (a && b) ≡ true → (a ≡ true) × (b ≡ true)
 and_true true b h = (refl, h)
@@ -39,8 +37,8 @@ pub all_digits : (text : List ℕ) → list_all is_digit (front_digits text) ≡
 all_digits [] = refl
 all_digits (b ∷ text) =
     elim (is_digit b) as (λ d. is_digit b ≡ d → list_all is_digit (take (cond d (1 + prefix_len is_digit text) 0) (b ∷ text)) ≡ true) [
-      true ↦ λ e. rw (add_comm 1 (prefix_len is_digit text), add-one) (grind (arith, all_digits text, e))
-    | false ↦ λ e. refl
+      | true ↦ λ e. rw (add_comm 1 (prefix_len is_digit text), add-one) (grind (arith, all_digits text, e))
+      | false ↦ λ e. refl
     ] refl
 
 -- ---- and no other parts do
@@ -162,7 +160,7 @@ unfolding parts_of
 parts_are n h =
     let after : List ℕ = fraction_text n.fraction ++ exponent_text n.exponent in
     let unsigned : begins_sign (n.whole ++ after) ≡ false =
-        body_no_sign n.whole n.fraction (exponent_text n.exponent) h.whole h.some_digit in
+    body_no_sign n.whole n.fraction (exponent_text n.exponent) h.whole h.some_digit in
     let s : sign_of (numeral_text n) ≡ n.sign = sign_read n.sign (n.whole ++ after) unsigned in
     let t : after_sign (numeral_text n) ≡ n.whole ++ after = after_sign_read n.sign (n.whole ++ after) unsigned in
     let d : begins_digit after ≡ false = fraction_no_digit n.fraction n.exponent h.exponent in
@@ -215,8 +213,8 @@ fraction_all_digits : (text : List ℕ) → list_all is_digit (fraction_digits (
 fraction_all_digits [] = refl
 fraction_all_digits (b ∷ text) =
     elim (b == 46) as (λ d. list_all is_digit (fraction_digits (cond d (Some (front_digits text)) None)) ≡ true) [
-      true ↦ all_digits text
-    | false ↦ refl
+      | true ↦ all_digits text
+      | false ↦ refl
     ]
 
 above_zero : (n : ℕ) → nat_lt 0 n ≡ true → 0 < n

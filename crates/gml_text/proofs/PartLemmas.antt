@@ -1,14 +1,13 @@
 -- What the functions that cut a word into its parts need.
-use Rattle.std.specs.Prelude.{◌==◌, nat_lt}
-use Rattle.std.proofs.Common.{◌≡◌, ℕ, ◌+◌, ◌<◌, Bool, true, false, cond, List, [], ◌∷◌, length, Option, None, Some, refl, sym, ap, ◌∙◌, arith, ◌&&◌, ◌||◌}
+use Rattle.std.specs.Prelude.{nat_lt}
+use Rattle.std.proofs.Common.{◌≡◌, ℕ, ◌+◌, Bool, cond, List, [], ◌∷◌, length, None, Some, refl, arith, ◌&&◌, ◌||◌}
 use Rattle.std.specs.List.{list_all}
 use Rattle.std.specs.Option.{is_some}
 use Rattle.std.proofs.lemmas.Bool.Decides.{nat_tests}
-use Rattle.gml_text.specs.declared.number.NumeralKind.{NumeralKind}
 use Rattle.gml_text.specs.declared.number.NumeralKind.TheVariants.{Whole, Real}
 use Rattle.gml_text.specs.Bytes.{is_digit}
-use Rattle.gml_text.specs.Numerals.{Exponent, Numeral, are_digits, fraction_digits}
-use Rattle.gml_text.specs.NumeralKinds.{HasTheParts, kind_of, kind_of_parts, parts_of, is_exponent, exponent_of, is_minus, sign_of, after_sign, front_digits, after_digits, after_fraction, fraction_of}
+use Rattle.gml_text.specs.Numerals.{are_digits}
+use Rattle.gml_text.specs.NumeralKinds.{HasTheParts, kind_of, is_exponent, exponent_of}
 
 pub are_digits_cases : (digits : List ℕ) → are_digits digits ≡ (nat_lt 0 (length digits) && list_all is_digit digits)
 are_digits_cases [] = refl

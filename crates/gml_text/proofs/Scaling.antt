@@ -1,8 +1,8 @@
 -- A number times powers of ten, above and below.
-use Rattle.std.proofs.Common.{◌≡◌, ℕ, zero, suc, ◌+◌, ◌-◌, ◌*◌, ◌/◌, ◌^◌, ◌<◌, ◌≤◌, ◌%◌, ◌≢◌, min, ◌⊎◌, inl, inr, refl, ap, sym, ◌∙◌, arith, subst, add-zero, Result, Ok, Err, ⊎_elim}
+use Rattle.std.proofs.Common.{◌≡◌, ℕ, suc, ◌+◌, ◌-◌, ◌*◌, ◌/◌, ◌^◌, ◌<◌, ◌≤◌, ◌%◌, ◌≢◌, min, ◌⊎◌, inl, inr, ap, sym, ◌∙◌, arith, Result, Ok, Err, ⊎_elim}
 use Rattle.std.specs.Result.{MatchResult}
 use Rattle.std.proofs.lemmas.Bool.{cases_lt}
-use native.Mathlib.Nat.{mul_assoc, mul_comm, mul_right_comm, pow-succ', mul-div_cancel, mul-mod_left, one-le-pow, pow-le-pow_right, mul-le-mul_left, mul-le-mul_right}
+use native.Mathlib.Nat.{mul_assoc, mul_comm, pow-succ', mul-div_cancel, mul-mod_left, one-le-pow, pow-le-pow_right, mul-le-mul_left, mul-le-mul_right}
 use Rattle.std.proofs.lemmas.Nat.{pow-add}
 use Rattle.gml_text.specs.declared.number.NumberFault.{NumberFault}
 use Rattle.gml_text.specs.declared.number.NumberFault.TheVariants.{TooFine, OutOfRange}
@@ -36,13 +36,13 @@ pub too_fine : (number dropped above below : ℕ) → number % 10 ≢ 0 → drop
 too_fine number dropped above below h k t e =
     let j : ℕ = below - suc (dropped + above) in
     let split : 10 ^ below ≡ 10 ^ suc j * 10 ^ (dropped + above) =
-        ap (λ x. 10 ^ x) (omega arith) ∙ pow-add 10 (suc j) (dropped + above) in
+    ap (λ x. 10 ^ x) (omega arith) ∙ pow-add 10 (suc j) (dropped + above) in
     let same : t * 10 ^ suc j * 10 ^ (dropped + above) ≡ number * 10 ^ (dropped + above) =
-        mul_assoc t (10 ^ suc j) (10 ^ (dropped + above)) ∙ sym (ap (λ x. t * x) split) ∙ e
-        ∙ mul_assoc number (10 ^ dropped) (10 ^ above) ∙ ap (λ x. number * x) (sym (pow-add 10 dropped above)) in
+    mul_assoc t (10 ^ suc j) (10 ^ (dropped + above)) ∙ sym (ap (λ x. t * x) split) ∙ e
+    ∙ mul_assoc number (10 ^ dropped) (10 ^ above) ∙ ap (λ x. number * x) (sym (pow-add 10 dropped above)) in
     let tenfold : number ≡ t * 10 ^ j * 10 =
-        sym (cancel (t * 10 ^ suc j) number (dropped + above) same) ∙ ap (λ x. t * x) (pow-succ' 10 j ∙ mul_comm 10 (10 ^ j))
-        ∙ sym (mul_assoc t (10 ^ j) 10) in
+    sym (cancel (t * 10 ^ suc j) number (dropped + above) same) ∙ ap (λ x. t * x) (pow-succ' 10 j ∙ mul_comm 10 (10 ^ j))
+    ∙ sym (mul_assoc t (10 ^ j) 10) in
     h (ap (λ x. x % 10) tenfold ∙ mul-mod_left (t * 10 ^ j) 10)
 
 -- ---- exponents that are cut off at the greatest u64
@@ -78,10 +78,12 @@ nothing_raised number above below e = (sym (ap (λ x. x * 10 ^ above) e ∙ ap (
 
 pub number_too_great : (number dropped above below : ℕ) → most_thousandths < number → below ≤ dropped + above →
     IsRaisedOrFault (number * 10 ^ dropped) above below (Err OutOfRange)
-number_too_great number dropped above below h k =
-    (number * 10 ^ (dropped + above - below), raised_by number dropped above below k,
-    (let p : number * 1 ≤ number * 10 ^ (dropped + above - below) = mul-le-mul_left number (power_above_zero (dropped + above - below)) in
-    omega arith))
+number_too_great number dropped above below h k = (
+  number * 10 ^ (dropped + above - below),
+  raised_by number dropped above below k,
+  (let p : number * 1 ≤ number * 10 ^ (dropped + above - below) = mul-le-mul_left number (power_above_zero (dropped + above - below)) in
+      omega arith),
+)
 
 pub raised_answer : (number dropped above below k : ℕ) (r : Result ℕ NumberFault) → 0 < number → below ≤ dropped + above →
     IsSameOrMany k (dropped + above - below) →
@@ -94,9 +96,13 @@ raised_answer number dropped above below k (Err TooFine) h l e m = absurd (other
   where
     other : TooFine ≡ OutOfRange → ⊥
     other x = cc
-raised_answer number dropped above below k (Err OutOfRange) h l (inl e) m =
-    (number * 10 ^ (dropped + above - below), raised_by number dropped above below l,
-    omega (arith, m.1, ap (λ x. number * 10 ^ x) e))
-raised_answer number dropped above below k (Err OutOfRange) h l (inr e) m =
-    (number * 10 ^ (dropped + above - below), raised_by number dropped above below l,
-    many_tens number (dropped + above - below) h e.1)
+raised_answer number dropped above below k (Err OutOfRange) h l (inl e) m = (
+  number * 10 ^ (dropped + above - below),
+  raised_by number dropped above below l,
+  omega (arith, m.1, ap (λ x. number * 10 ^ x) e),
+)
+raised_answer number dropped above below k (Err OutOfRange) h l (inr e) m = (
+  number * 10 ^ (dropped + above - below),
+  raised_by number dropped above below l,
+  many_tens number (dropped + above - below) h e.1,
+)

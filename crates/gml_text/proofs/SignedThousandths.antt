@@ -1,13 +1,13 @@
 -- From magnitudes to signed thousandths.
 use Rattle.std.specs.Prelude.{unsigned_abs, ◌↔◌}
-use Rattle.std.proofs.Common.{◌≡◌, ℕ, zero, suc, ◌+◌, ◌-◌, ◌*◌, ◌^◌, ◌<◌, ◌≤◌, ℤ, pos, negsuc, neg_ℤ, ◌+ℤ◌, ◌-ℤ◌, ◌*ℤ◌, Bool, true, false, ◌⊎◌, inl, inr, List, ◌++◌, length, Option, None, Some, Result, Ok, Err, refl, ap, sym, ◌∙◌, arith, subst, ⊎_elim}
+use Rattle.std.proofs.Common.{◌≡◌, ℕ, zero, suc, ◌+◌, ◌-◌, ◌*◌, ◌^◌, ◌<◌, ◌≤◌, ℤ, pos, negsuc, ◌+ℤ◌, ◌-ℤ◌, ◌*ℤ◌, Bool, true, false, ◌++◌, length, Option, None, Some, Result, Ok, Err, refl, ap, sym, ◌∙◌, arith, subst, ⊎_elim}
 use native.Mathlib.Nat.{mul_assoc, mul-pos}
 use Rattle.std.proofs.lemmas.Nat.{pow-add}
 use Rattle.std.proofs.lemmas.Int.{ints}
 use Rattle.std.proofs.lemmas.Bool.{cases_lt}
 use Rattle.gml_text.specs.declared.number.NumberFault.{NumberFault}
 use Rattle.gml_text.specs.declared.number.NumberFault.TheVariants.{TooFine, OutOfRange}
-use Rattle.gml_text.specs.Numerals.{Sign, no_sign, plus, minus, Exponent, Numeral, HasParts, digits_value, with_sign, fraction_digits, mantissa, exponent_value, power_of_ten, IsTimesTen, IsThousandths, most_thousandths}
+use Rattle.gml_text.specs.Numerals.{Sign, no_sign, plus, minus, Exponent, Numeral, digits_value, with_sign, fraction_digits, exponent_value, power_of_ten, IsTimesTen, IsThousandths, most_thousandths}
 use Rattle.gml_text.specs.NumeralKinds.{is_minus}
 use Rattle.gml_text.specs.Scaling.{IsRaised, IsRaisedOrFault, tens_above, tens_below, tens_above_by, tens_below_by, signed, signed_answer}
 use Rattle.gml_text.proofs.Scaling.{cancel, power_above_zero}
@@ -53,13 +53,14 @@ times_ten_from s number above below t h = ⊎_elim less more (cases_lt above bel
     less : above < below → IsTimesTen (signed s number) (pos above -ℤ pos below) (signed s t)
     less k =
         let e : t * 10 ^ (below - suc above + 1) ≡ number =
-            cancel (t * 10 ^ (below - suc above + 1)) number above (powers t (below - suc above + 1) above below (omega arith) ∙ h) in
+        cancel (t * 10 ^ (below - suc above + 1)) number above (powers t (below - suc above + 1) above below (omega arith) ∙ h) in
         subst (λ (z : ℤ). IsTimesTen (signed s number) z (signed s t)) (sym (negative_difference above below k))
         (signed_times s t (10 ^ (below - suc above + 1)) ∙ ap (signed s) e)
+
     more : below ≤ above → IsTimesTen (signed s number) (pos above -ℤ pos below) (signed s t)
     more k =
         let e : t ≡ number * 10 ^ (above - below) =
-            cancel t (number * 10 ^ (above - below)) below (h ∙ sym (powers number (above - below) below above (omega arith))) in
+        cancel t (number * 10 ^ (above - below)) below (h ∙ sym (powers number (above - below) below above (omega arith))) in
         subst (λ (z : ℤ). IsTimesTen (signed s number) z (signed s t)) (sym (difference above below k))
         (ap (signed s) e ∙ sym (signed_times s number (10 ^ (above - below))))
 
@@ -70,15 +71,18 @@ times_ten_to s number above below t h = ⊎_elim less more (cases_lt above below
     less : above < below → (m : ℕ) × (t ≡ signed s m) × IsRaised number above below m
     less k =
         let e : t *ℤ pos (10 ^ (below - suc above + 1)) ≡ signed s number =
-            subst (λ (z : ℤ). IsTimesTen (signed s number) z t) (negative_difference above below k) h in
+        subst (λ (z : ℤ). IsTimesTen (signed s number) z t) (negative_difference above below k) h in
         let f = signed_factor s number (10 ^ (below - suc above + 1)) t (power_above_zero (below - suc above + 1)) e in
         (f.0, f.1, sym (powers f.0 (below - suc above + 1) above below (omega arith)) ∙ ap (λ x. x * 10 ^ above) f.2)
+
     more : below ≤ above → (m : ℕ) × (t ≡ signed s m) × IsRaised number above below m
     more k =
         let e : t ≡ signed s number *ℤ pos (10 ^ (above - below)) =
-            subst (λ (z : ℤ). IsTimesTen (signed s number) z t) (difference above below k) h in
-        (number * 10 ^ (above - below), e ∙ signed_times s number (10 ^ (above - below)),
-        powers number (above - below) below above (omega arith))
+        subst (λ (z : ℤ). IsTimesTen (signed s number) z t) (difference above below k) h in (
+          number * 10 ^ (above - below),
+          e ∙ signed_times s number (10 ^ (above - below)),
+          powers number (above - below) below above (omega arith),
+        )
 
 -- ---- the parts of a numeral
 
@@ -155,10 +159,11 @@ is_answer n (Ok m) h =
     let u : ℤ = signed (is_minus n.sign) m in
     let k : IsThousandths n u = thousandths_from n m h.0 in
     record {
-      value = λ t.
-          (λ e. subst (λ (x : ℤ). IsThousandths n x × (unsigned_abs x ≤ most_thousandths)) (sym (ok_is u t (Ok u) refl e))
-          (k, omega (arith, magnitude_of_signed (is_minus n.sign) m, h.1)),
-          λ (p, q). ap Ok (sym (same_as n m t h.0 p)));
+      value = λ t. (
+        λ e. subst (λ (x : ℤ). IsThousandths n x × (unsigned_abs x ≤ most_thousandths)) (sym (ok_is u t (Ok u) refl e))
+            (k, omega (arith, magnitude_of_signed (is_minus n.sign) m, h.1)),
+        λ (p, q). ap Ok (sym (same_as n m t h.0 p)),
+      );
       too_fine = (λ e. absurd (no_both u TooFine (Ok u) refl e), λ f. absurd (f u k));
       out_of_range = (λ e. absurd (no_both u OutOfRange (Ok u) refl e), λ (t, p, q). absurd (omega (arith, magnitude_is n m t h.0 p, h.1, q)));
     }

@@ -1,10 +1,10 @@
 -- The parts that a word is cut into serve for the numeral that it writes.
-use Rattle.std.proofs.Common.{◌≡◌, ℕ, ◌+◌, Bool, true, false, List, ◌++◌, length, Option, None, Some, Result, refl, ap, sym, ◌∙◌}
+use Rattle.std.proofs.Common.{◌≡◌, ℕ, ◌+◌, Bool, true, List, ◌++◌, length, Result}
 use Rattle.std.specs.List.{list_all}
 use Rattle.gml_text.specs.declared.number.NumberFault.{NumberFault}
 use Rattle.gml_text.specs.Bytes.{is_digit}
-use Rattle.gml_text.specs.Numerals.{Numeral, HasParts, digits_value, fraction_digits}
-use Rattle.gml_text.specs.NumeralKinds.{HasTheParts, parts_of, is_numeral, is_exponent, exponent_of, is_minus}
+use Rattle.gml_text.specs.Numerals.{Numeral, HasParts, digits_value}
+use Rattle.gml_text.specs.NumeralKinds.{HasTheParts, parts_of, is_numeral, is_exponent, exponent_of}
 use Rattle.gml_text.specs.Scaling.{IsRaisedOrFault, tens_above, tens_below, signed_answer}
 use Rattle.gml_text.proofs.NumeralParts.{parts_of-is, test_from_exponent}
 use Rattle.gml_text.proofs.NumeralLaws.{numeral_has_parts}

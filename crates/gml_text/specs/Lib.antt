@@ -1,7 +1,10 @@
+pub mod Alike
 pub mod Bytes
+pub mod Faults
 pub mod Grammar
 pub mod NumeralKinds
 pub mod Numerals
+pub mod Reading
 pub mod Scaling
 pub mod Texts
 pub mod Trees

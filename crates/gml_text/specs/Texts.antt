@@ -1,5 +1,5 @@
 -- Which tree a GML text has: a relation by cases over whole texts.
-use Rattle.std.specs.Prelude.{◌≡◌, ℕ, suc, ◌+◌, ◌<◌, Bool, true, false, List, [], ◌∷◌, ◌++◌, length}
+use Rattle.std.specs.Prelude.{◌≡◌, ℕ, suc, ◌+◌, ◌<◌, true, false, List, [], ◌∷◌, ◌++◌, length}
 use Rattle.gml_text.specs.declared.tree.Tree.{Tree}
 use Rattle.gml_text.specs.declared.tree.Tree.{out-Tree, roll-Tree}
 use Rattle.gml_text.specs.declared.tree.Pair.{Pair}

@@ -39,7 +39,10 @@ pub fn thousandths(lexeme: &[u8]) -> Result<i64, NumberFault>
     ensures out_of_range { (n : Numeral) → HasParts lexeme.now n → (result ≡ Err NumberFault.OutOfRange) ↔ ((t : ℤ) × IsThousandths n t × (most_thousandths < unsigned_abs t)) }
 {
     let parts = parts_of(lexeme);
-    with_sign(parts.minus, thousandths_of(parts.whole, parts.fraction, parts.exponent))
+    with_sign(
+        parts.minus,
+        thousandths_of(parts.whole, parts.fraction, parts.exponent),
+    )
 }
 
 fn with_sign(minus: bool, magnitude: Result<u64, NumberFault>) -> Result<i64, NumberFault>
@@ -65,7 +68,7 @@ pub fn whole(lexeme: &[u8]) -> Option<i64>
 
 /// Which kind of numeral the word is; `None` where it is none.
 #[tactic(auto, using(crate::proofs::PartLemmas::kind_of_cut))]
-pub(crate) fn numeral_kind(word: &[u8]) -> Option<NumeralKind>
+pub fn numeral_kind(word: &[u8]) -> Option<NumeralKind>
     ensures { result ≡ kind_of word.now }
 {
     let parts = parts_of(word);
@@ -93,8 +96,7 @@ pub fn numerals_have_parts()
     ensures value { (word : List ℕ) (n : Numeral) → HasParts word n → HasNoPoint n → value_of_whole word ≡ whole_value n }
     ensures numeral { (word : List ℕ) → (is_numeral word ≡ true) ↔ ((n : Numeral) × HasParts word n) }
     ensures only { (word : List ℕ) (m n : Numeral) → HasParts word m → HasParts word n → m ≡ n }
-{
-}
+{}
 
 #[cfg(test)]
 mod tests {

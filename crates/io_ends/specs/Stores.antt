@@ -1,5 +1,5 @@
 -- What contracts see of a sink in memory.
-use Rattle.std.specs.Prelude.{◌≡◌, ℕ, ◌-◌, ◌<◌, ◌≤◌, List, [], ◌++◌, length, take, min, Contains, Result, Ok, Err, ◌⊎◌}
+use Rattle.std.specs.Prelude.{◌≡◌, ℕ, ◌-◌, ◌<◌, List, [], ◌++◌, length, take, min, Contains, Result, Ok, Err, ◌⊎◌}
 use Rattle.io_ends.specs.Counts.{next_count}
 use Rattle.io_ends.specs.declared.sink.Failed.{Failed}
 

@@ -1,5 +1,5 @@
 -- What contracts see of a source in memory.
-use Rattle.std.specs.Prelude.{◌≡◌, ℕ, List, length, drop, min, Contains}
+use Rattle.std.specs.Prelude.{ℕ, List, length, drop, min, Contains}
 use Rattle.io_ends.specs.Counts.{next_count}
 use Rattle.io_ends.specs.declared.source.Step.{Step}
 use Rattle.io_ends.specs.declared.source.Step.TheVariants.{Got, End, Failed}

@@ -14,7 +14,9 @@ pub(crate) fn magnitude(before: u64, digits: &[u8]) -> Option<u64>
 {
     let mut value = before;
     for digit in digits {
-        value = value.checked_mul(10)?.checked_add(u64::from(*digit - b'0'))?;
+        value = value
+            .checked_mul(10)?
+            .checked_add(u64::from(*digit - b'0'))?;
     }
     Some(value)
 }

@@ -24,7 +24,13 @@ pub(crate) fn parts_of(word: &[u8]) -> Parts<'_>
     let minus = begins_minus(word);
     let (whole, rest) = split_digits(after_sign(word));
     let (point, fraction, exponent) = split_fraction(rest);
-    Parts { minus, whole, point, fraction, exponent }
+    Parts {
+        minus,
+        whole,
+        point,
+        fraction,
+        exponent,
+    }
 }
 
 pub(crate) fn begins_minus(word: &[u8]) -> bool

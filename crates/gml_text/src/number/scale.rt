@@ -7,15 +7,20 @@ ghost use Rattle.gml_text.specs.NumeralKinds.{is_exponent, exponent_of};
 ghost use Rattle.gml_text.specs.Numerals.{digits_value, most_thousandths};
 ghost use Rattle.gml_text.specs.Scaling.{tens_above, tens_below, IsRaisedOrFault, IsKept};
 
+use super::NumberFault;
 use super::digits::{magnitude, magnitude_of, without_end_zeros};
 use super::parts::{after_sign, begins_minus};
-use super::NumberFault;
 
 /// The greatest magnitude in thousandths, that of 10,000,000,000.
 const MOST: u64 = 10_000_000_000_000;
 
-/// The number that the digits write, times ten to the power three and to that of the exponent.
-pub(crate) fn thousandths_of(whole: &[u8], fraction: &[u8], exponent: &[u8]) -> Result<u64, NumberFault>
+/// A thousand times the number that the parts write. The powers of ten are counted, and one is only computed where it
+/// is small: the zeros at the end of the digits are left out first, so that what is left is divisible by no ten.
+pub(crate) fn thousandths_of(
+    whole: &[u8],
+    fraction: &[u8],
+    exponent: &[u8],
+) -> Result<u64, NumberFault>
     requires whole { list_all is_digit whole.now ≡ true }
     requires fraction { list_all is_digit fraction.now ≡ true }
     requires exponent { is_exponent (exponent_of exponent.now) ≡ true }
@@ -25,10 +30,12 @@ pub(crate) fn thousandths_of(whole: &[u8], fraction: &[u8], exponent: &[u8]) -> 
     if kept_whole.is_empty() && kept_fraction.is_empty() {
         return Ok(0);
     }
-    let zeros = (whole.len() - kept_whole.len()) as u128 + (fraction.len() - kept_fraction.len()) as u128;
+    let zeros = (whole.len() - kept_whole.len()) as u128
+        + (fraction.len() - kept_fraction.len()) as u128;
     let (above, below) = exponent_tens(exponent);
-    let tens = (zeros + 3 + u128::from(above)).checked_sub(fraction.len() as u128 + u128::from(below));
-    let Some(tens) = tens else {
+    let up = zeros + 3 + u128::from(above);
+    let down = fraction.len() as u128 + u128::from(below);
+    let Some(tens) = up.checked_sub(down) else {
         return Err(NumberFault::TooFine);
     };
     let Some(number) = magnitude_of(kept_whole, kept_fraction) else {
@@ -37,8 +44,7 @@ pub(crate) fn thousandths_of(whole: &[u8], fraction: &[u8], exponent: &[u8]) -> 
     raised(number, tens)
 }
 
-/// The digits without the zeros at their end, so that only the last zeros before the point are left out where there
-/// are no others after it.
+/// The digits without the zeros at their end: those before the point lose theirs only where none is kept after it.
 fn kept_digits<'a>(whole: &'a [u8], fraction: &'a [u8]) -> (&'a [u8], &'a [u8])
     requires whole { list_all is_digit whole.now ≡ true }
     requires fraction { list_all is_digit fraction.now ≡ true }
@@ -52,7 +58,8 @@ fn kept_digits<'a>(whole: &'a [u8], fraction: &'a [u8]) -> (&'a [u8], &'a [u8])
     }
 }
 
-/// The powers of ten by which the exponent multiplies and divides, none above the greatest `u64`.
+/// The powers of ten by which the exponent multiplies and divides. One above the greatest `u64` is cut off there,
+/// which changes no answer, since a word is never so long that its digits make up for it.
 fn exponent_tens(exponent: &[u8]) -> (u64, u64)
     requires { is_exponent (exponent_of exponent.now) ≡ true }
     ensures above { result.0 ≡ min (tens_above (exponent_of exponent.now)) (2 ^ 64 - 1) }
@@ -61,7 +68,11 @@ fn exponent_tens(exponent: &[u8]) -> (u64, u64)
     match exponent {
         [_, rest @ ..] => {
             let size = magnitude(0, after_sign(rest)).unwrap_or(u64::MAX);
-            if begins_minus(rest) { (0, size) } else { (size, 0) }
+            if begins_minus(rest) {
+                (0, size)
+            } else {
+                (size, 0)
+            }
         }
         [] => (0, 0),
     }

@@ -20,16 +20,17 @@ row_from pairs k a b within p q row =
     rw (node_at_read pairs k a first p, node_at_read pairs (suc k) b within (rw add-one at q)) row
 
 pub returns-then-not-is_row : goal.returns-then-not-is_row
-returns-then-not-is_row c =
-    (λ f. search rules,
-     λ row. c.if-not-is_row.ensures.1
-        (row_at c.args.pairs.now c.loop-k.k c.index-pairs-k.result c.index-pairs-k-in-loop-k.result (omega arith)
-            c.index-pairs-k.is c.index-pairs-k-in-loop-k.is (row c.loop-k.k (omega arith))))
+returns-then-not-is_row c = (
+  λ f. search rules,
+  λ row. c.if-not-is_row.ensures.1
+      (row_at c.args.pairs.now c.loop-k.k c.index-pairs-k.result c.index-pairs-k-in-loop-k.result (omega arith)
+      c.index-pairs-k.is c.index-pairs-k-in-loop-k.is (row c.loop-k.k (omega arith))),
+)
 
 pub loop-k-preserved : goal.loop-k-preserved
 loop-k-preserved c =
     λ j h. below_more (λ (i : ℕ). IsSomeAnd (node_at c.args.pairs.now i) (λ m. IsSomeAnd (node_at c.args.pairs.now (suc i)) (λ n. IsEastOf m n)))
-        c.loop-k.k (λ i below. c.loop-k.invariant i (omega arith))
-        (row_from c.args.pairs.now c.loop-k.k c.index-pairs-k.result c.index-pairs-k-in-loop-k.result (omega arith)
-            c.index-pairs-k.is c.index-pairs-k-in-loop-k.is (c.if-not-is_row.ensures.0 (search rules)))
-        j (omega arith)
+    c.loop-k.k (λ i below. c.loop-k.invariant i (omega arith))
+    (row_from c.args.pairs.now c.loop-k.k c.index-pairs-k.result c.index-pairs-k-in-loop-k.result (omega arith)
+    c.index-pairs-k.is c.index-pairs-k-in-loop-k.is (c.if-not-is_row.ensures.0 (search rules)))
+    j (omega arith)

@@ -46,7 +46,7 @@ module _ (R S : RattleType) (h : R.Denot → S.Denot) where
       (contracts.the_row R).coded (contracts.the_row S).coded (invariant R.Denot) (invariant S.Denot)
       (λ fields p q. refl) (λ fields p q. refl) (λ fields e. tt) (λ fields e. tt) (over (inside.the_row R)) (over (inside.the_row S))
       (struct_places (inside.the_type R) (inside.the_type S) (vec.mapped h, tt) _ (λ values. refl) refl
-        (laid _ _ _ (vec.the_places heap.the_row ghosts R S h alike), tt))
+      (laid _ _ _ (vec.the_places heap.the_row ghosts R S h alike), tt))
 
   pub the_codes_placed : Recodes R S h → Recodes (contracts.the_row R) (contracts.the_row S) ((the_former this).map R.Denot S.Denot h)
   the_codes_placed recodes values = sym (code_map R.coded.code S.coded.code h (λ value. sym (recodes value)) values)

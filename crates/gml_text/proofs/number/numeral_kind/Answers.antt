@@ -9,7 +9,7 @@ use Rattle.gml_text.proofs.number.numeral_kind.Goals.{then-have_digit, else-have
 pub returns : goal.returns
 returns c =
     let numeral : c.if-have_digit.numeral ≡ (nat_lt 0 (length c.parts_of-parts.result.whole.now + length c.parts_of-parts.result.fraction.now) && is_exponent (exponent_of c.parts_of-parts.result.exponent.now)) =
-        elim c.if-have_digit.branch [ then-have_digit w ↦ grind (arith, common_steps) | else-have_digit w ↦ grind (arith, common_steps) ] in
+    elim c.if-have_digit.branch [ then-have_digit w ↦ grind (arith, common_steps) | else-have_digit w ↦ grind (arith, common_steps) ] in
     let real : c.if-parts.real ≡ (c.parts_of-parts.result.point || nat_lt 0 (length c.parts_of-parts.result.exponent.now)) =
-        elim c.if-parts.branch [ then-parts w ↦ grind (arith, common_steps) | else-parts w ↦ grind (arith, common_steps) ] in
+    elim c.if-parts.branch [ then-parts w ↦ grind (arith, common_steps) | else-parts w ↦ grind (arith, common_steps) ] in
     c.kind_from.ensures ∙ rw (numeral, real) (sym (kind_of_cut _ _ _ _ _ _ c.parts_of-parts.ensures))

@@ -1,4 +1,3 @@
-use Rattle.std.proofs.Common.{sym, ◌∙◌, subst}
 use Rattle.gml_text.proofs.ThousandthsLemmas.{cut_numeral, cut_answer}
 use Rattle.gml_text.proofs.number.thousandths.Goals as goal
 

@@ -1,4 +1,4 @@
-use Rattle.std.proofs.Common.{arith, rules, length-drop, length-take-le}
+use Rattle.std.proofs.Common.{arith}
 use Rattle.io_ends.proofs.Fronts.{Appends-further}
 use Rattle.io_ends.proofs.transfer.write_all.Goals as goal
 

@@ -1,4 +1,4 @@
-use Rattle.std.proofs.Common.{◌≡◌, ◌<◌, ◌-◌, ◌≤◌, length, get_or, arith}
+use Rattle.std.proofs.Common.{arith}
 use Rattle.gml_text.proofs.EndZeros.{last_is_not_zero}
 use Rattle.gml_text.proofs.number.digits.without_end_zeros.Goals as goal
 

@@ -1,5 +1,4 @@
 use Rattle.std.proofs.Common.{arith}
-use Rattle.std.proofs.lemmas.Grind.{common_steps}
 use Rattle.std.proofs.lemmas.Bool.Decides.{nat_tests}
 use Rattle.gml_text.proofs.EndZeros.{kept_both, kept_whole}
 use Rattle.gml_text.proofs.number.scale.kept_digits.Goals as goal

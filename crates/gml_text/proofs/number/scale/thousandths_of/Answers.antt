@@ -1,9 +1,7 @@
-use Rattle.std.proofs.Common.{◌≡◌, ℕ, ◌+◌, ◌-◌, ◌<◌, ◌≤◌, length, min, arith}
+use Rattle.std.proofs.Common.{◌+◌, ◌<◌, length, arith}
 use Rattle.std.proofs.lemmas.Bool.Decides.{nat_tests}
 use Rattle.gml_text.specs.NumeralKinds.{exponent_of}
-use Rattle.gml_text.specs.Scaling.{tens_above, tens_below}
-use Rattle.gml_text.proofs.Scaling.{top}
-use Rattle.gml_text.proofs.ScaleLemmas.{left_out, too_fine_by_kept, too_great_by_kept, raised_by_kept}
+use Rattle.gml_text.proofs.ScaleLemmas.{too_fine_by_kept, too_great_by_kept, raised_by_kept}
 use Rattle.gml_text.proofs.number.scale.thousandths_of.Goals as goal
 use Rattle.gml_text.proofs.number.scale.thousandths_of.Goals.{else-is_empty-via-then-is_empty+else-is_empty-2, else-is_empty-via-else-is_empty}
 
@@ -12,10 +10,10 @@ returns-in_default c =
     let v = c.kept_digits.result.0.now in
     let f = c.kept_digits.result.1.now in
     let some : 0 < length v + length f =
-        elim c.else-is_empty.branch [
-          else-is_empty-via-then-is_empty+else-is_empty-2 w ↦ grind (arith, nat_tests)
-        | else-is_empty-via-else-is_empty w ↦ grind (arith, nat_tests)
-        ] in
+    elim c.else-is_empty.branch [
+      | else-is_empty-via-then-is_empty+else-is_empty-2 w ↦ grind (arith, nat_tests)
+      | else-is_empty-via-else-is_empty w ↦ grind (arith, nat_tests)
+    ] in
     too_fine_by_kept c.args.whole.now c.args.fraction.now v f (exponent_of c.args.exponent.now) c.kept_digits.ensures some (omega arith) (omega arith)
 
 pub returns-in_default-magnitude_of : goal.returns-in_default-magnitude_of
@@ -28,10 +26,10 @@ returns c =
     let v = c.kept_digits.result.0.now in
     let f = c.kept_digits.result.1.now in
     let some : 0 < length v + length f =
-        elim c.else-is_empty.branch [
-          else-is_empty-via-then-is_empty+else-is_empty-2 w ↦ grind (arith, nat_tests)
-        | else-is_empty-via-else-is_empty w ↦ grind (arith, nat_tests)
-        ] in
+    elim c.else-is_empty.branch [
+      | else-is_empty-via-then-is_empty+else-is_empty-2 w ↦ grind (arith, nat_tests)
+      | else-is_empty-via-else-is_empty w ↦ grind (arith, nat_tests)
+    ] in
     raised_by_kept c.args.whole.now c.args.fraction.now v f
     (exponent_of c.args.exponent.now) c.in-Some-magnitude_of.number c.in-Some.tens c.raised.result
     c.kept_digits.ensures some (omega arith) (omega arith) (omega arith) (omega arith) (omega arith) c.raised.ensures

@@ -1,0 +1,5 @@
+pub mod SpanLemmas
+pub mod MeetingLemmas
+pub mod WayLemmas
+pub mod GroupLemmas
+pub mod ShapeLemmas

@@ -1,0 +1,5 @@
+use Rattle.drawing_check.specs.Groups.{AreGroups}
+use Rattle.drawing_check.proofs.joined.join_all.Given as goal
+
+abbrev pub invariant-loop-i : goal.invariant-loop-i
+invariant-loop-i l = AreGroups l.plan l.i l.leads

@@ -1,0 +1,11 @@
+pub mod Conditions
+pub mod Courses
+pub mod Points
+pub mod Meetings
+pub mod Faults
+pub mod Shapes
+pub mod Spans
+pub mod CommonEnds
+pub mod Collisions
+pub mod Partners
+pub mod Groups

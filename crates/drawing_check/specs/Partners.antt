@@ -1,0 +1,15 @@
+-- The first piece that meets a given one.
+use Rattle.std.specs.Prelude.{◌≡◌, ℕ, ◌<◌, length}
+use Rattle.compact_types.specs.declared.places.Places.{Places}
+use Rattle.compact_types.specs.declared.plan.Plan.{Plan}
+use Rattle.drawing_check.specs.declared.meeting.Meeting.{Meeting}
+use Rattle.drawing_check.specs.Points.{IsLeastPoint}
+use Rattle.drawing_check.specs.Meetings.{Meets, IsApart}
+
+-- of all pieces after p the second of the meeting is the first that meets p
+pub record IsFirstPartner (plan : Plan) (places : Places) (p : ℕ) (meeting : Meeting) : Type 0 where
+  pub is_first : meeting.first ≡ p
+  pub in_order : p < meeting.second
+  pub in_plan : meeting.second < length plan.pieces
+  pub least : IsLeastPoint (Meets plan places p meeting.second) meeting.point
+  pub earlier : (j : ℕ) → p < j → j < meeting.second → IsApart plan places p j

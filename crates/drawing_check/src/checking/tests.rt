@@ -1,0 +1,170 @@
+ghost use Rattle.std.specs.Prelude.{◌≡◌, ◌≤◌, ◌<◌, ℕ, length, IfOk, IfSome};
+ghost use Rattle.compact_types.specs.Lookups.{place};
+ghost use Rattle.drawing_check.specs.Conditions.{IsWithinReach};
+
+use super::check;
+use crate::drawing::is_drawing;
+use crate::fault::ShapeFault;
+use compact_types::items::Items;
+use compact_types::places::{Places, Point};
+use compact_types::plan::{Piece, Plan};
+use compact_types::refusal::{NoMemory, Refusal};
+use std::alloc::Global;
+use std::test::Fail;
+
+const REACH: i64 = 10_000_000_000_000;
+
+/// The plan with these pieces; `None` where an end of one is no vertex.
+fn plan_of(alloc: Global, vertices: u32, ends: &[(u32, u32)]) -> Result<Option<Plan>, NoMemory>
+    ensures { IfOk result (λ made. IfSome made (λ plan. plan.vertices ≡ vertices)) }
+{
+    let mut pieces = Items::new(alloc);
+    for &(from, to) in ends {
+        if from >= vertices || to >= vertices {
+            return Ok(None);
+        }
+        pieces.push(Piece { from, to })?;
+    }
+    Ok(Some(Plan { vertices, pieces }))
+}
+
+/// The places with these coordinates; `None` where one is too far out to be checked.
+fn places_of(alloc: Global, coordinates: &[(i64, i64)]) -> Result<Option<Places>, NoMemory>
+    ensures { IfOk result (λ made. IfSome made (λ places.
+        (v : ℕ) → v < length places.xy → IsWithinReach (place places.xy v).x × IsWithinReach (place places.xy v).y)) }
+{
+    let mut xy = Items::new(alloc);
+    for &(x, y) in coordinates {
+        if x < -REACH || x > REACH || y < -REACH || y > REACH {
+            return Ok(None);
+        }
+        xy.push(Point { x, y })?;
+    }
+    Ok(Some(Places { xy }))
+}
+
+/// Whether the answer is a shape that has these places as a drawing, or else the fault; `None` where nothing can be
+/// checked.
+fn answer(
+    alloc: Global,
+    coordinates: &[(i64, i64)],
+    ends: &[(u32, u32)],
+) -> Result<Option<Result<(), ShapeFault>>, NoMemory> {
+    let Ok(vertices) = u32::try_from(coordinates.len()) else {
+        return Ok(None);
+    };
+    let Some(plan) = plan_of(alloc, vertices, ends)? else {
+        return Ok(None);
+    };
+    let Some(places) = places_of(alloc, coordinates)? else {
+        return Ok(None);
+    };
+    if vertices == 0 || places.xy.len() != vertices as usize || plan.pieces.len() > 6000 {
+        return Ok(None);
+    }
+    match check(alloc, &plan, &places) {
+        Ok(shape) if is_drawing(&shape, &places) => Ok(Some(Ok(()))),
+        Ok(_) => Ok(None),
+        Err(Refusal::Fault(fault)) => Ok(Some(Err(fault))),
+        Err(Refusal::NoMemory) => Err(NoMemory),
+    }
+}
+
+type Case<'a> = (&'a [(i64, i64)], &'a [(u32, u32)], Result<(), ShapeFault>);
+
+#[test]
+fn plans_in_places(rt: HostRuntime) -> Result<(), Fail> {
+    let cases: [Case; 12] = [
+        // One vertex, a bent edge, and a square whose sides share their corners only.
+        (&[(7, -7)], &[], Ok(())),
+        (
+            &[(0, 0), (5000, 0), (5000, -2000)],
+            &[(0, 1), (2, 1)],
+            Ok(()),
+        ),
+        (
+            &[(0, 0), (1, 0), (1, 1), (0, 1)],
+            &[(0, 1), (1, 2), (2, 3), (3, 0)],
+            Ok(()),
+        ),
+        // An edge across another, an edge that ends on another, and two edges on the same way.
+        (
+            &[
+                (0, 0),
+                (10000, 0),
+                (5000, -5000),
+                (5000, 5000),
+                (10000, 5000),
+            ],
+            &[(0, 1), (2, 3), (1, 4), (4, 3)],
+            Err(ShapeFault::Meeting {
+                p: 0,
+                q: 1,
+                x: 5000,
+                y: 0,
+            }),
+        ),
+        (
+            &[(0, 0), (10000, 0), (5000, 0), (0, 5000), (5000, 5000)],
+            &[(0, 1), (0, 3), (3, 4), (4, 2)],
+            Err(ShapeFault::Meeting {
+                p: 0,
+                q: 3,
+                x: 5000,
+                y: 0,
+            }),
+        ),
+        (
+            &[(0, 0), (10000, 0)],
+            &[(0, 1), (0, 1)],
+            Err(ShapeFault::Meeting {
+                p: 0,
+                q: 1,
+                x: 0,
+                y: 0,
+            }),
+        ),
+        // Two edges from one vertex on top of each other: the point after the vertex.
+        (
+            &[(0, 0), (0, 10), (0, 4)],
+            &[(0, 1), (0, 2)],
+            Err(ShapeFault::Meeting {
+                p: 0,
+                q: 1,
+                x: 0,
+                y: 1,
+            }),
+        ),
+        // A slanted piece, a piece with no length, and both.
+        (
+            &[(0, 0), (5000, 3000)],
+            &[(0, 1)],
+            Err(ShapeFault::Slanted(0)),
+        ),
+        (
+            &[(0, 0), (5000, 4000), (0, 4000), (0, 4000)],
+            &[(0, 2), (2, 3), (3, 1)],
+            Err(ShapeFault::ZeroPiece(1)),
+        ),
+        (
+            &[(0, 0), (5000, 4000), (5000, 9000), (5000, 9000)],
+            &[(0, 1), (1, 3), (3, 2)],
+            Err(ShapeFault::ZeroPiece(2)),
+        ),
+        // Two edges apart, and a vertex alone on the place of another.
+        (
+            &[(0, 0), (1000, 0), (5000, 5000), (6000, 5000)],
+            &[(0, 1), (2, 3)],
+            Err(ShapeFault::Disconnected(2)),
+        ),
+        (
+            &[(0, 0), (1000, 0), (0, 0)],
+            &[(0, 1)],
+            Err(ShapeFault::Disconnected(2)),
+        ),
+    ];
+    for (coordinates, ends, want) in cases {
+        assert_eq!(rt; answer(rt.alloc(), coordinates, ends)?, Some(want));
+    }
+    Ok(())
+}

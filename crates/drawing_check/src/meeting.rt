@@ -1,0 +1,56 @@
+ghost use Rattle.std.specs.Prelude.{◌≡◌, ℕ, ◌<◌, length, MatchOption};
+ghost use Rattle.drawing_check.specs.Conditions.{CanCheck};
+ghost use Rattle.drawing_check.specs.Meetings.{IsApart, IsFirstMeeting};
+ghost use Rattle.drawing_check.specs.Partners.{IsFirstPartner};
+
+use crate::covered::{collision, cover};
+use compact_types::places::{Places, Point};
+use compact_types::plan::Plan;
+
+/// Two pieces, the first of the lesser number, and a point where they meet.
+#[derive(Clone, Copy, Debug)]
+pub struct Meeting {
+    pub first: u32,
+    pub second: u32,
+    pub point: Point,
+}
+
+/// The first two pieces, by the number of the first and then of the second, that share a point which they may not
+/// share, and the least such point, by x and then y.
+pub fn first_meeting(plan: &Plan, places: &Places) -> Option<Meeting>
+    requires { CanCheck plan.now places.now }
+    ensures { MatchOption result
+        ((p q : ℕ) → p < q → q < length plan.now.pieces → IsApart plan.now places.now p q)
+        (λ m. IsFirstMeeting plan.now places.now m.first m.second m.point) }
+{
+    for first in 0..plan.pieces.len() {
+        if let Some(meeting) = first_partner(plan, places, first) {
+            return Some(meeting);
+        }
+    }
+    None
+}
+
+/// The first piece after `first` that meets it.
+fn first_partner(plan: &Plan, places: &Places, first: usize) -> Option<Meeting>
+    requires can_check { CanCheck plan.now places.now }
+    requires first { first < length plan.now.pieces }
+    ensures { MatchOption result
+        ((q : ℕ) → first < q → q < length plan.now.pieces → IsApart plan.now places.now first q)
+        (IsFirstPartner plan.now places.now first) }
+{
+    let pieces = plan.pieces.as_slice();
+    let points = places.xy.as_slice();
+    let covered = cover(points, pieces[first]);
+    for second in first + 1..pieces.len() {
+        let other = cover(points, pieces[second]);
+        if let Some(point) = collision(points, covered, other) {
+            return Some(Meeting {
+                first: first as u32,
+                second: second as u32,
+                point,
+            });
+        }
+    }
+    None
+}

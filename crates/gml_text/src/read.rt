@@ -1,0 +1,129 @@
+ghost use Rattle.std.specs.Prelude.{◌≡◌, ◌≤◌, length, true, Ok, Err, IfOk};
+ghost use Rattle.compact_types.specs.Refusals.{Gives, IfFault};
+ghost use Rattle.gml_text.specs.declared.fault.GmlFault.{GmlFault};
+ghost use Rattle.gml_text.specs.declared.tree.Tree.{Tree};
+ghost use Rattle.gml_text.specs.Faults.{FirstFault, HasOneAnswer};
+ghost use Rattle.gml_text.specs.Grammar.{IsReadable};
+ghost use Rattle.gml_text.specs.Texts.{Spells};
+ghost use Rattle.gml_text.specs.Trees.{is_within_grammar};
+
+use crate::fault::GmlFault;
+use crate::reader::read;
+use crate::tree::Tree;
+use compact_types::refusal::Refusal;
+use std::alloc::Global;
+
+/// The tree of a text, or its first fault.
+pub fn read_tree(alloc: Global, bytes: &[u8]) -> Result<Tree, Refusal<GmlFault>>
+    requires { length bytes.now ≤ 67108864 }
+    // What is answered is so.
+    ensures tree { IfOk result (λ tree. Spells bytes.now tree) }
+    ensures fault { IfFault result (λ fault. FirstFault bytes.now fault) }
+
+    // What is so is answered, unless memory is refused.
+    ensures only { (tree : Tree) → Spells bytes.now tree → Gives result (Ok tree) }
+    ensures first { (fault : GmlFault) → FirstFault bytes.now fault → Gives result (Err fault) }
+
+    // What callers may rely on in every tree that is read.
+    ensures within { IfOk result (λ tree. is_within_grammar tree ≡ true) }
+    ensures readable { IfOk result (λ tree. IsReadable tree) }
+{
+    read(alloc, bytes)
+}
+
+/// A law: every text has exactly one tree or exactly one first fault, and never both.
+pub fn has_one_answer(text: &[u8])
+    ensures { HasOneAnswer text.now }
+{
+    let _ = text;
+}
+
+#[cfg(test)]
+mod tests {
+    use super::*;
+    use crate::fault::GmlKind;
+    use crate::tree::Value;
+    use std::process::Abort;
+    use std::test::Fail;
+
+    fn both<T: Send + Sync>(_: &T) {}
+
+    /// The first fault of a short text; `None` where it has a tree.
+    fn fault_of(rt: &impl Abort, alloc: Global, text: &[u8]) -> Option<GmlFault> {
+        assert!(rt; text.len() < 1000);
+        match read_tree(alloc, text) {
+            Ok(tree) => {
+                both(&tree);
+                None
+            }
+            Err(Refusal::Fault(fault)) => Some(fault),
+            Err(Refusal::NoMemory) => {
+                assert!(rt; false, "no memory");
+                None
+            }
+        }
+    }
+
+    #[test]
+    fn first_faults(rt: HostRuntime) {
+        let faults = [
+            (b"a b".as_slice(), 2, GmlKind::BadValue),
+            (b"a 1.2.3".as_slice(), 2, GmlKind::BadNumeral),
+            (b"a \"x".as_slice(), 2, GmlKind::OpenString),
+            (b"1a 2".as_slice(), 0, GmlKind::BadKey),
+            (b"a-b 1".as_slice(), 0, GmlKind::BadKey),
+            (b"graph [".as_slice(), 6, GmlKind::OpenList),
+            (b"]".as_slice(), 0, GmlKind::StrayClose),
+            (b"a #c".as_slice(), 2, GmlKind::BadValue),
+            (b"a 1#c".as_slice(), 2, GmlKind::BadNumeral),
+            (b"a[b 1]#c\nd[e\t".as_slice(), 13, GmlKind::BadValue),
+            (b"a[b[c 1]d[#]]".as_slice(), 9, GmlKind::OpenList),
+            (b"a".as_slice(), 1, GmlKind::BadValue),
+            (b"a]".as_slice(), 1, GmlKind::BadValue),
+            (b"a 1\"".as_slice(), 3, GmlKind::BadKey),
+        ];
+        for (text, at, kind) in faults {
+            assert_eq!(rt;
+                fault_of(&rt, rt.alloc(), text),
+                Some(GmlFault { at, kind })
+            );
+        }
+    }
+
+    #[test]
+    fn depths(rt: HostRuntime) -> Result<(), Fail> {
+        let mut text = Vec::new(rt.alloc());
+        for _ in 0..64 {
+            text.extend_from_slice(b"a[".as_slice())?;
+        }
+        let mut whole = Vec::from_slice(rt.alloc(), text.as_slice())?;
+        for _ in 0..64 {
+            whole.push(b']')?;
+        }
+        assert_eq!(rt; fault_of(&rt, rt.alloc(), whole.as_slice()), None);
+        text.extend_from_slice(b"a[".as_slice())?;
+        let deep = GmlFault {
+            at: 129,
+            kind: GmlKind::TooDeep,
+        };
+        assert_eq!(rt; fault_of(&rt, rt.alloc(), text.as_slice()), Some(deep));
+        Ok(())
+    }
+
+    #[test]
+    fn trees(rt: HostRuntime) -> Result<(), Fail> {
+        let texts = [
+            (b"".as_slice(), 0),
+            (b"# no pair".as_slice(), 0),
+            (b"a 1".as_slice(), 1),
+            (b"_a1[]B\"\xc3\xb6#]\n\"c -.5E+07 d +0 #x\n".as_slice(), 4),
+            (b"a[b 1]#x\nc 5.\n#y\nd\t2".as_slice(), 3),
+        ];
+        for (text, pairs) in texts {
+            assert!(rt; text.len() < 1000);
+            let tree = read_tree(rt.alloc(), text)?;
+            assert_eq!(rt; tree.pairs.len(), pairs);
+        }
+        Ok(())
+    }
+}
