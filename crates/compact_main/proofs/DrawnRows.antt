@@ -28,7 +28,7 @@ row_within : (n : ℕ) → n ≤ 6001 → AreWithin (row_places n)
 row_within n few v axis below =
     let inside : v < n = subst (λ (k : ℕ). v < k) (length-map-range_with_len row_point 0 n) below in
     subst (λ (p : Point). (pos 0 ≤ℤ (along axis p)) × ((along axis p) ≤ℤ pos 999000))
-        (sym (get_or-map-range_with_len row_point 0 n v v origin inside (zero-add v))) (row_point_within n v axis few inside)
+    (sym (get_or-map-range_with_len row_point 0 n v v origin inside (zero-add v))) (row_point_within n v axis few inside)
 
 same_vertices : (text : List ℕ) (tree : Tree) (reading : Reading) (shape : Shape) → HoldsDrawing text tree reading shape → shape.plan.vertices ≡ reading.plan.vertices
 same_vertices text tree reading shape holds = ap (λ (p : Plan). p.vertices) holds.checked.same_plan
@@ -45,16 +45,16 @@ pub drawn_best : (text : List ℕ) (tree : Tree) (reading : Reading) (shape : Sh
     IsBest total_length shape (row_places reading.plan.vertices)
 drawn_best text tree reading shape holds row =
     subst (λ (n : ℕ). IsBest total_length shape (row_places n)) (same_vertices text tree reading shape holds)
-        (row_best shape row (connected_shape text tree reading shape holds) (some_vertices text tree reading shape holds))
+    (row_best shape row (connected_shape text tree reading shape holds) (some_vertices text tree reading shape holds))
 
 -- they can be written into its tree
 pub drawn_fits : (text : List ℕ) (tree : Tree) (reading : Reading) (shape : Shape) → HoldsDrawing text tree reading shape → IsRow shape →
     CanPut tree reading (row_places reading.plan.vertices) 1
 drawn_fits text tree reading shape holds row =
     let few : length shape.plan.pieces ≤ 6000 = subst (λ (p : Plan). length p.pieces ≤ 6000) (sym holds.checked.same_plan)
-            (reading_can_be_checked tree reading holds.read).few_pieces in
+    (reading_can_be_checked tree reading holds.read).few_pieces in
     let vertices : reading.plan.vertices ≤ 6001 = subst (λ (n : ℕ). n ≤ 6001) (same_vertices text tree reading shape holds)
-            (few_vertices shape row (connected_shape text tree reading shape holds) few) in
+    (few_vertices shape row (connected_shape text tree reading shape holds) few) in
     record {
       read = holds.read;
       one_for_each = length-map-range_with_len row_point 0 reading.plan.vertices;

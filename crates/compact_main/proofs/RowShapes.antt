@@ -56,9 +56,9 @@ row_of shape row connected some =
     let order : AreInOrder shape.plan = λ i below. (row i below).0 in
     let vertices = vertices_of_row shape.plan order connected some in
     same_shape shape (row_shape (suc (length shape.plan.pieces)))
-        (same_plan shape.plan (row_shape (suc (length shape.plan.pieces))).plan vertices
-            (fill_by_all row_piece shape.plan.pieces (length shape.plan.pieces) no_piece refl order))
-        (fill_by_all (λ (k : ℕ). East) shape.ways (length shape.plan.pieces) East shape.one_for_each (λ i below. (row i below).1))
+    (same_plan shape.plan (row_shape (suc (length shape.plan.pieces))).plan vertices
+    (fill_by_all row_piece shape.plan.pieces (length shape.plan.pieces) no_piece refl order))
+    (fill_by_all (λ (k : ℕ). East) shape.ways (length shape.plan.pieces) East shape.one_for_each (λ i below. (row i below).1))
     ∙ ap row_shape (sym vertices)
 
 -- the best places of a row
@@ -66,4 +66,4 @@ pub row_best : (shape : Shape) → IsRow shape → IsConnected shape.plan → 0 
     IsBest total_length shape (row_places shape.plan.vertices)
 row_best shape row connected some =
     subst (λ (s : Shape). IsBest total_length s (row_places shape.plan.vertices)) (sym (row_of shape row connected some))
-        (row_is_best shape.plan.vertices some)
+    (row_is_best shape.plan.vertices some)

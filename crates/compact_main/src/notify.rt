@@ -107,7 +107,12 @@ fn push_shape_fault(note: &mut Note, fault: ShapeFault)
     match fault {
         ShapeFault::ZeroPiece(piece) => push_around(note, b"piece ", piece, b" has no length"),
         ShapeFault::Slanted(piece) => push_around(note, b"piece ", piece, b" is slanted"),
-        ShapeFault::Disconnected(vertex) => push_around(note, b"vertex ", vertex, b" is not joined"),
+        ShapeFault::Disconnected(vertex) => push_around(
+            note,
+            b"vertex ",
+            vertex,
+            b" is not joined",
+        ),
         ShapeFault::Meeting { p, q, x, y } => {
             push_pair(note, p, q);
             push_meeting(note, x, y);

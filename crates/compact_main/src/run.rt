@@ -32,10 +32,7 @@ fn row_places(alloc: Global, vertices: u32) -> Result<Places, NoMemory>
 {
     let mut xy = Items::new(alloc);
     for k in 0..vertices {
-        xy.push(Point {
-            x: k as i64,
-            y: 0,
-        })?;
+        xy.push(Point { x: k as i64, y: 0 })?;
     }
     Ok(Places { xy })
 }
@@ -185,3 +182,5 @@ fn run_command<S: Source, K: Sink>(
 
 #[cfg(test)]
 mod tests;
+#[cfg(test)]
+mod texts;

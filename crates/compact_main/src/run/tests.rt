@@ -1,97 +1,15 @@
 use crate::run::run_alone;
+use crate::run::texts::*;
 use crate::status::{Status, Why};
+use drawing_check::fault::ShapeFault;
+use drawing_read::fault::DrawFault;
 use gml_text::fault::{GmlFault, GmlKind};
+use gml_text::number::NumberFault;
 use io_ends::memory_sink::MemorySink;
 use io_ends::memory_source::{MemorySource, PlainSource};
-use std::alloc::Global;
+use std::alloc::{AllocError, Global};
 use std::process::Abort;
 use std::test::Fail;
-
-const TWO_NODES: &[u8] = b"graph [
-  node [ id 0 graphics [ x 0 y 0 ] ]
-  node [ id 1 graphics [ x 500 y 0 ] ]
-  edge [ source 0 target 1 ]
-]
-";
-
-const TWO_NODES_DRAWN: &[u8] = b"graph [
-  node [
-    id 0
-    graphics [
-      x 0
-      y 0
-    ]
-  ]
-  node [
-    id 1
-    graphics [
-      x 1
-      y 0
-    ]
-  ]
-  edge [
-    source 0
-    target 1
-  ]
-]
-";
-
-const ONE_NODE: &[u8] = b"graph [\n  node [ id 0 graphics [ x 7 y -2 ] ]\n]\n";
-
-const ONE_NODE_DRAWN: &[u8] = b"graph [
-  node [
-    id 0
-    graphics [
-      x 0
-      y 0
-    ]
-  ]
-]
-";
-
-const FROM_EAST_TO_WEST: &[u8] = b"graph [
-  node [ id 0 graphics [ x 5 y 0 ] ]
-  node [ id 1 graphics [ x 0 y 0 ] ]
-  edge [ source 0 target 1 ]
-]
-";
-
-const WITH_CREATOR: &[u8] = b"Creator \"x\"
-# a line of words
-graph [
-  node [ id 0 graphics [ x 0 y 0 ] ]
-  node [ id 1 graphics [ x 500 y 0 ] ]
-  edge [ source 0 target 1 ]
-]
-";
-
-const WITH_CREATOR_DRAWN: &[u8] = b"Creator \"x\"
-graph [
-  node [
-    id 0
-    graphics [
-      x 0
-      y 0
-    ]
-  ]
-  node [
-    id 1
-    graphics [
-      x 1
-      y 0
-    ]
-  ]
-  edge [
-    source 0
-    target 1
-  ]
-]
-";
-
-const LISTS_65: &[u8] =
-    b"a[a[a[a[a[a[a[a[a[a[a[a[a[a[a[a[a[a[a[a[a[a[a[a[a[a[a[a[a[a[a[a[a[a[a[a[a[a[a[a[a[a[a[a[a[a[a[a[a[a[a[a[a[a[a[a[a[a[a[a[a[a[a[a[a[";
-
-const HALF_STEPS: &[u8] = b"graph [\n  node [ id 0 graphics [ x 3.5 y -2 ] ]\n]\n";
 
 /// A run on a text that comes in pieces of 16 bytes, where the reads of `failing` fail, into a sink with so much room.
 #[derive(Clone, Copy)]
@@ -157,20 +75,32 @@ fn assert_run(rt: &impl Abort, alloc: Global, run: &Run) -> Result<(), Fail> {
     Ok(())
 }
 
+/// A run of `draw --plain` on a text whose tree is no drawing, or whose places are none.
+fn refused<'a>(text: &'a [u8], why: Why, note: &'a [u8]) -> Run<'a> {
+    ended(text, Status::Refused(why), note)
+}
+
 #[test]
-fn draws_chains(rt: HostRuntime) -> Result<(), Fail> {
+fn draws_rows(rt: HostRuntime) -> Result<(), Fail> {
     let not_yet = Status::Refused(Why::NotYet);
     let note = b"refused: not built yet\n".as_slice();
     let cases = [
         drawn(TWO_NODES, TWO_NODES_DRAWN),
         drawn(ONE_NODE, ONE_NODE_DRAWN),
+        drawn(HALF_STEPS, ONE_NODE_DRAWN),
         drawn(WITH_CREATOR, WITH_CREATOR_DRAWN),
+        drawn(EDGE_FIRST, EDGE_FIRST_DRAWN),
         ended(FROM_EAST_TO_WEST, not_yet, note),
-        ended(HALF_STEPS, not_yet, note),
-        ended(b"", not_yet, note),
+        ended(STRAIGHT_POINT, not_yet, note),
+        ended(HOOK, not_yet, note),
         // Words that ask for nothing: the read that would fail is not made.
         Run {
             words: &["draw"],
+            failing: &[1],
+            ..ended(TWO_NODES, Status::BadWords, USAGE)
+        },
+        Run {
+            words: &["check", "x"],
             failing: &[1],
             ..ended(TWO_NODES, Status::BadWords, USAGE)
         },
@@ -189,6 +119,113 @@ fn draws_chains(rt: HostRuntime) -> Result<(), Fail> {
             failing: &[2],
             ..ended(TWO_NODES, Status::ReadFault, b"read fault\n")
         },
+        // How many vertices and pieces there are.
+        Run {
+            words: &["check"],
+            ..drawn(HOOK, b"drawing: 5 vertices, 4 pieces\n")
+        },
+    ];
+    for case in &cases {
+        assert_run(&rt, rt.alloc(), case)?;
+    }
+    Ok(())
+}
+
+#[test]
+fn refuses_trees_that_are_no_drawing(rt: HostRuntime) -> Result<(), Fail> {
+    let too_fine = DrawFault::BadNumber {
+        at: 35,
+        cause: NumberFault::TooFine,
+    };
+    let cases = [
+        refused(b"", Why::Draw(DrawFault::NoGraph), b"refused: no graph\n"),
+        refused(
+            b"graph [ ]",
+            Why::Draw(DrawFault::Empty),
+            b"refused: no node\n",
+        ),
+        refused(
+            TOO_FINE,
+            Why::Draw(too_fine),
+            b"refused: number too fine at byte 35\n",
+        ),
+        refused(
+            ID_TWICE,
+            Why::Draw(DrawFault::RepeatedId(1)),
+            b"refused: node 1 repeats an id\n",
+        ),
+        refused(
+            UNKNOWN_END,
+            Why::Draw(DrawFault::UnknownEnd(0)),
+            b"refused: edge 0 names no node\n",
+        ),
+    ];
+    for case in &cases {
+        assert_run(&rt, rt.alloc(), case)?;
+        assert_run(
+            &rt,
+            rt.alloc(),
+            &Run {
+                words: &["check"],
+                ..*case
+            },
+        )?;
+    }
+    Ok(())
+}
+
+/// A run on a text in which two pieces meet, at a point with y 0.
+fn meeting<'a>(text: &'a [u8], p: u32, q: u32, x: i64, note: &'a [u8]) -> Run<'a> {
+    refused(
+        text,
+        Why::Shape(ShapeFault::Meeting { p, q, x, y: 0 }),
+        note,
+    )
+}
+
+#[test]
+fn refuses_places_that_are_no_drawing(rt: HostRuntime) -> Result<(), Fail> {
+    let no_length = |piece| Why::Shape(ShapeFault::ZeroPiece(piece));
+    let apart = Why::Shape(ShapeFault::Disconnected(2));
+    let cases = [
+        meeting(
+            CROSSING,
+            0,
+            1,
+            5000,
+            b"refused: pieces 0 and 1 meet at 5000 0\n",
+        ),
+        meeting(
+            BEND_ON_A_PIECE,
+            0,
+            3,
+            5000,
+            b"refused: pieces 0 and 3 meet at 5000 0\n",
+        ),
+        meeting(
+            EDGE_TWICE,
+            0,
+            1,
+            0,
+            b"refused: pieces 0 and 1 meet at 0 0\n",
+        ),
+        refused(
+            SLANTED,
+            Why::Shape(ShapeFault::Slanted(0)),
+            b"refused: piece 0 is slanted\n",
+        ),
+        refused(
+            BEND_TWICE,
+            no_length(1),
+            b"refused: piece 1 has no length\n",
+        ),
+        refused(
+            BEND_ON_A_NODE,
+            no_length(2),
+            b"refused: piece 2 has no length\n",
+        ),
+        refused(TWO_PARTS, apart, b"refused: vertex 2 is not joined\n"),
+        refused(NODE_ON_A_NODE, apart, b"refused: vertex 2 is not joined\n"),
     ];
     for case in &cases {
         assert_run(&rt, rt.alloc(), case)?;
@@ -287,24 +324,64 @@ fn a_note_that_cannot_be_written_changes_no_status(rt: HostRuntime) -> Result<()
     Ok(())
 }
 
+/// The text of a row of so many nodes, with an edge between neighbours.
+fn row_text(alloc: Global, nodes: u32) -> Result<String, AllocError> {
+    let mut text = String::from_str(alloc, "graph [\n")?;
+    for k in 0..nodes {
+        let node = format!(in alloc; "  node [ id {k} graphics [ x {k} y 0 ] ]\n")?;
+        text.push_str(node.as_str())?;
+    }
+    for k in 1..nodes {
+        let from = k - 1;
+        let edge = format!(in alloc; "  edge [ source {from} target {k} ]\n")?;
+        text.push_str(edge.as_str())?;
+    }
+    text.push_str("]\n")?;
+    Ok(text)
+}
+
+#[test]
+fn reads_up_to_a_thousand_vertices(rt: HostRuntime) -> Result<(), Fail> {
+    let alloc = rt.alloc();
+    let many = Why::Draw(DrawFault::TooManyVertices(1001));
+    for (nodes, status) in [(1000, Status::Done), (1001, Status::Refused(many))] {
+        let text = row_text(alloc, nodes)?;
+        let mut out = MemorySink::new(alloc, 200_000, 4096, Vec::new(alloc))
+            .ok()
+            .ok_or("room")?;
+        let mut notes = MemorySink::new(alloc, 100, 100, Vec::new(alloc))
+            .ok()
+            .ok_or("room")?;
+        let words = vec![in alloc;
+            String::from_str(alloc, "draw")?,
+            String::from_str(alloc, "--plain")?,
+        ]?;
+        let mut source = PlainSource::new(text.as_bytes());
+        let ended = run_alone(alloc, words.as_slice(), &mut source, &mut out, &mut notes);
+        assert_eq!(rt; ended, status);
+    }
+    Ok(())
+}
+
 #[test]
 fn refuses_a_text_past_the_limit(rt: HostRuntime) -> Result<(), Fail> {
     let alloc = rt.alloc();
-    let words = vec![in alloc;
-        String::from_str(alloc, "draw")?,
-        String::from_str(alloc, "--plain")?,
-    ]?;
-    for (count, why) in [(4_194_304, Why::NotYet), (4_194_305, Why::TooLong)] {
-        let text = vec![in alloc; b' '; count]?;
-        let mut out = MemorySink::new(alloc, 10, 10, Vec::new(alloc))
+    let long = Status::Refused(Why::TooLong);
+    for (hashes, status) in [(4_194_304, Status::Done), (4_194_305, long)] {
+        let mut text = Vec::from_slice(alloc, TWO_NODES)?;
+        while text.len() < hashes {
+            text.push(b'#')?;
+        }
+        let mut out = MemorySink::new(alloc, 1000, 1000, Vec::new(alloc))
             .ok()
             .ok_or("room")?;
-        let mut notes = MemorySink::new(alloc, 100, 10, Vec::new(alloc))
+        let mut notes = MemorySink::new(alloc, 100, 100, Vec::new(alloc))
             .ok()
             .ok_or("room")?;
+        let words = vec![in alloc; String::from_str(alloc, "check")?]?;
         let mut source = PlainSource::new(text.as_slice());
-        let status = run_alone(alloc, words.as_slice(), &mut source, &mut out, &mut notes);
-        assert_eq!(rt; status, Status::Refused(why));
+        let ended = run_alone(alloc, words.as_slice(), &mut source, &mut out, &mut notes);
+        assert_eq!(rt; ended, status);
     }
     Ok(())
 }

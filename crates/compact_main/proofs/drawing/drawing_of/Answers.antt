@@ -8,4 +8,4 @@ check-requires c = reading_can_be_checked c.in-Ok.tree c.in-Ok-read_drawing.read
 pub returns-in-Err-check-clause-fault : goal.returns-in-Err-check-clause-fault
 returns-in-Err-check-clause-fault c = rw c.as_shape.ensures
     (shape_refused c.args.bytes.now c.in-Ok.tree c.in-Ok-read_drawing.reading c.in-Err-check.refusal c.in-Ok.ensures.tree
-        c.in-Ok-read_drawing.ensures.reading c.in-Err-check.ensures.fault)
+    c.in-Ok-read_drawing.ensures.reading c.in-Err-check.ensures.fault)
