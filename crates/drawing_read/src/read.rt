@@ -79,3 +79,139 @@ pub fn read_drawing(alloc: Global, tree: &Tree) -> Result<Reading, Refusal<DrawF
 {
     only_reading(alloc, tree)
 }
+
+#[cfg(test)]
+mod tests {
+    use super::*;
+    use compact_types::places::{Axis, Point};
+    use compact_types::plan::Piece;
+    use gml_text::number::NumberFault;
+    use gml_text::read::read_tree;
+    use std::process::Abort;
+    use std::test::Fail;
+
+    /// Three nodes, and an edge whose first and last points are its nodes' places.
+    const BENT: &[u8] =
+        b"graph [ node [ id 0 graphics [ x 0 y 0 ] ] node [ id 1 graphics [ x 5 y 4 ] ] \
+        node [ id 2 graphics [ y 9 x 5 ] ] edge [ source 0 target 1 ] edge [ source 1 target 2 graphics [ Line [ \
+        point [ x 5 y 4 ] point [ x 5 y 9 ] point [ x 5 y 9 ] ] ] ] ]";
+
+    /// The first fault of a short text that has a tree.
+    fn fault_in(rt: &impl Abort, alloc: Global, text: &[u8]) -> Option<DrawFault> {
+        assert!(rt; text.len() < 1000);
+        let Ok(tree) = read_tree(alloc, text) else {
+            return None;
+        };
+        match read_drawing(alloc, &tree) {
+            Err(Refusal::Fault(fault)) => Some(fault),
+            _ => None,
+        }
+    }
+
+    #[test]
+    fn faults(rt: HostRuntime) {
+        let cases: [(&[u8], DrawFault); 18] = [
+            (b"", DrawFault::NoGraph),
+            (b"graph 1 Graph [ ]", DrawFault::NoGraph),
+            (b"graph [ ] graph [ ]", DrawFault::TwoGraphs),
+            (b"graph [ ]", DrawFault::Empty),
+            (
+                b"graph [ node [ id 1 graphics [ x 0 y 0 ] ] node [ ] ]",
+                DrawFault::NoId(1),
+            ),
+            (b"graph [ node [ id 1.0 id 1 ] ]", DrawFault::BadId(0)),
+            (
+                b"graph [ node [ id 9223372036854775808 ] ]",
+                DrawFault::BadId(0),
+            ),
+            (
+                b"graph [ node [ id 1 ] node [ id +01 ] edge [ source 1 target 9 ] ]",
+                DrawFault::RepeatedId(1),
+            ),
+            (
+                b"graph [ node [ id 1 graphics [ x 0 y \"0\" ] ] ]",
+                DrawFault::NoPlace(0),
+            ),
+            (
+                b"graph [ node [ id 1 graphics 1 graphics [ x 0 y 0 ] ] ]",
+                DrawFault::NoPlace(0),
+            ),
+            (
+                b"graph [ node [ id 0 graphics [ x 0.1234 y 0 ] ] ]",
+                DrawFault::BadNumber {
+                    at: 33,
+                    cause: NumberFault::TooFine,
+                },
+            ),
+            (
+                b"graph [ edge [ graphics [ Line [ point [ x 1e400 y 0 ] ] ] ] node [ id 0 graphics [ x 0.1234 y 0 ] ] ]",
+                DrawFault::BadNumber {
+                    at: 43,
+                    cause: NumberFault::OutOfRange,
+                },
+            ),
+            (
+                b"graph [ node [ id 1 graphics [ x 0 y 0 ] ] edge [ source 1 target 1.0 ] ]",
+                DrawFault::NoEnd(0),
+            ),
+            (
+                b"graph [ edge [ source 1 target 9 ] node [ id 1 graphics [ x 0 y 0 ] ] ]",
+                DrawFault::UnknownEnd(0),
+            ),
+            (
+                b"graph [ node [ id 1 graphics [ x 0 y 0 ] ] edge [ source 1 target 99999999999999999999 ] ]",
+                DrawFault::UnknownEnd(0),
+            ),
+            (
+                b"graph [ node [ id 1 graphics [ x 0 y 0 ] ] edge [ source 1 target 1 ] \
+                edge [ source 1 target 1 graphics [ Line [ point [ x 1 y 2 ] point 1 ] ] ] ]",
+                DrawFault::BadPoint { edge: 1, point: 1 },
+            ),
+            (
+                b"graph [ node [ id 1 graphics [ x 0 y 0 ] ] edge [ source 1 target 1 graphics [ Line [ point [ x 1 ] ] ] ] ]",
+                DrawFault::BadPoint { edge: 0, point: 0 },
+            ),
+            (b"graph [ node [ id 1 ] edge [ ] ]", DrawFault::NoPlace(0)),
+        ];
+        for (text, fault) in cases {
+            assert_eq!(rt; fault_in(&rt, rt.alloc(), text), Some(fault));
+        }
+    }
+
+    #[test]
+    fn straight_points_and_points_of_nodes(rt: HostRuntime) -> Result<(), Fail> {
+        let tree = read_tree(rt.alloc(), BENT)?;
+        let reading = read_drawing(rt.alloc(), &tree)?;
+        let points = [(0, 0), (5000, 4000), (5000, 9000), (5000, 9000)].map(|(x, y)| Point {
+            x,
+            y,
+        });
+        assert_eq!(rt; reading.places.xy.as_slice(), points.as_slice());
+        let pieces = [(0, 1), (1, 3), (3, 2)].map(|(from, to)| Piece { from, to });
+        assert_eq!(rt; reading.plan.pieces.as_slice(), pieces.as_slice());
+        assert_eq!(rt; reading.plan.vertices, 4);
+        Ok(())
+    }
+
+    #[test]
+    fn spots_in_document_order(rt: HostRuntime) -> Result<(), Fail> {
+        let tree = read_tree(rt.alloc(), BENT)?;
+        let reading = read_drawing(rt.alloc(), &tree)?;
+        let spots: [(usize, &[u32], u32, Axis); 5] = [
+            (0, &[0, 0, 1, 0], 0, Axis::X),
+            (4, &[0, 2, 1, 0], 2, Axis::Y),
+            (6, &[0, 4, 2, 0, 0, 0], 1, Axis::X),
+            (9, &[0, 4, 2, 0, 1, 1], 3, Axis::Y),
+            (10, &[0, 4, 2, 0, 2, 0], 2, Axis::X),
+        ];
+        assert_eq!(rt; reading.spots.len(), 12);
+        for (number, path, vertex, axis) in spots {
+            let spot = reading.spots.get(number).ok_or("no spot")?;
+            assert_eq!(rt;
+                (spot.path.as_slice(), spot.vertex, spot.axis),
+                (path, vertex, axis)
+            );
+        }
+        Ok(())
+    }
+}
