@@ -1,3 +1,5 @@
 pub mod Printed
 pub mod Numerals
 pub mod PlaceNumbers
+pub mod ListFacts
+pub mod MovedGraphs
