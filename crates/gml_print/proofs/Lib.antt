@@ -3,3 +3,5 @@ pub mod Numerals
 pub mod PlaceNumbers
 pub mod ListFacts
 pub mod MovedGraphs
+pub mod MovedEdges
+pub mod MovedFaults

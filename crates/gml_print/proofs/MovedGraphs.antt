@@ -235,7 +235,7 @@ module _ (where_is : ℕ → Point) where
   moved_node_points n [] have = refl
   moved_node_points n (node ∷ nodes) have = rw (moved_place n node.place have.0, moved_node_points (n + 1) nodes have.1) refl
 
-  moved_route_points : (span : Span) (p : ℕ) (points : List (Option Numbers)) → HavePoints points →
+  pub moved_route_points : (span : Span) (p : ℕ) (points : List (Option Numbers)) → HavePoints points →
       map point_of (moved_points span p points) ≡ map where_is (vertices_from span p points)
   moved_route_points span p [] have = refl
   moved_route_points span p (point ∷ points) have =
@@ -249,14 +249,14 @@ ends_some : (here : Point) (points : List Point) → ends_at here points ≡ tru
 ends_some here [] is = cc
 ends_some here (point ∷ points) is = let e = length-take (length (point ∷ points) - 1) (point ∷ points) in omega arith
 
-after_length : (here : Point) (points : List Point) → count (begins_at here points) + length (after_first_at here points) ≡ length points
+pub after_length : (here : Point) (points : List Point) → count (begins_at here points) + length (after_first_at here points) ≡ length points
 after_length here points = by_test (begins_at here points) refl
   where
     by_test : (b : Bool) → begins_at here points ≡ b → count b + length (cond b (drop 1 points) points) ≡ length points
     by_test true is = let e = begins_some here points is in omega arith
     by_test false is = zero-add (length points)
 
-before_length : (here : Point) (points : List Point) → length (before_last_at here points) + count (ends_at here points) ≡ length points
+pub before_length : (here : Point) (points : List Point) → length (before_last_at here points) + count (ends_at here points) ≡ length points
 before_length here points = by_test (ends_at here points) refl
   where
     by_test : (b : Bool) → ends_at here points ≡ b → length (cond b (take (length points - 1) points) points) + count b ≡ length points
