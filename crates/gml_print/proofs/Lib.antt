@@ -5,3 +5,4 @@ pub mod ListFacts
 pub mod MovedGraphs
 pub mod MovedEdges
 pub mod MovedFaults
+pub mod MovedReadings
