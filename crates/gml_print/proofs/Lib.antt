@@ -6,3 +6,5 @@ pub mod MovedGraphs
 pub mod MovedEdges
 pub mod MovedFaults
 pub mod MovedReadings
+pub mod Changes
+pub mod Puts
