@@ -8,3 +8,4 @@ pub mod MovedFaults
 pub mod MovedReadings
 pub mod Changes
 pub mod Puts
+pub mod SpotPaths
