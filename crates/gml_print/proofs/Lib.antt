@@ -9,3 +9,4 @@ pub mod MovedReadings
 pub mod Changes
 pub mod Puts
 pub mod SpotPaths
+pub mod PlacedLists

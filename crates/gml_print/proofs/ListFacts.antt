@@ -1,7 +1,7 @@
 -- Positions, filters and ranges.
-use Rattle.std.proofs.Common.{◌≡◌, ℕ, zero, suc, ◌+◌, ◌-◌, ◌<◌, ◌≤◌, arith, Bool, true, false, not, cond, List, [], ◌∷◌, ◌++◌, length, map, Option, None, Some, refl, sym, ap, ◌∙◌, nat_lt, append-nil, append_assoc, add_assoc, add-zero, zero-add, slice_index_or}
+use Rattle.std.proofs.Common.{◌≡◌, ℕ, zero, suc, ◌+◌, ◌-◌, ◌<◌, ◌≤◌, ◌⊎◌, inl, inr, arith, Bool, true, false, not, cond, List, [], ◌∷◌, ◌++◌, length, map, Option, None, Some, refl, sym, ap, ◌∙◌, nat_lt, append-nil, append_assoc, add_assoc, add-zero, zero-add, slice_index_or}
 use Rattle.std.specs.Prelude.{is_none}
-use Rattle.std.specs.List.{position, prefix_len, range_with_len, filter_map, cons_option}
+use Rattle.std.specs.List.{position, find, prefix_len, range_with_len, filter_map, cons_option}
 use Rattle.std.specs.Option.{option_or}
 use Rattle.std.proofs.lemmas.Bool.Decides.{nat_tests}
 use Rattle.std.proofs.lemmas.List.{length-map}
@@ -48,3 +48,26 @@ range_append a (suc m) n =
     let e : suc m + n ≡ suc (m + n) = omega arith in
     let f : (a + 1) + m ≡ a + suc m = omega arith in
     rw (e, range_append (a + 1) m n, f) refl
+
+found_cons : (b : Bool) (k n a : ℕ) → b ≡ false → cond (nat_lt k n) (Some k) None ≡ Some a →
+    cond (nat_lt (cond (not b) (1 + k) 0) (suc n)) (Some (cond (not b) (1 + k) 0)) None ≡ Some (suc k)
+found_cons true k n a fails is = cc
+found_cons false k n a fails is = grind (arith, nat_tests)
+
+found_here : (b : Bool) (k n : ℕ) → b ≡ true → cond (nat_lt (cond (not b) (1 + k) 0) (suc n)) (Some (cond (not b) (1 + k) 0)) None ≡ Some 0
+found_here true k n passes = grind (arith, nat_tests)
+found_here false k n passes = cc
+
+-- the first that passes is found exactly where it has a place
+pub find_position : {X : Type 0} (p : X → Bool) (xs : List X) →
+    ((position p xs ≡ None) × (find p xs ≡ None)) ⊎ ((a : ℕ) × (x : X) × ((position p xs ≡ Some a) × (find p xs ≡ Some x)))
+find_position p [] = inl (refl, refl)
+find_position {X} p (x ∷ xs) = by_test (p x) refl (find_position p xs)
+  where
+    by_test : (b : Bool) → p x ≡ b →
+        ((position p xs ≡ None) × (find p xs ≡ None)) ⊎ ((a : ℕ) × (y : X) × ((position p xs ≡ Some a) × (find p xs ≡ Some y))) →
+        ((position p (x ∷ xs) ≡ None) × (find p (x ∷ xs) ≡ None)) ⊎ ((a : ℕ) × (y : X) × ((position p (x ∷ xs) ≡ Some a) × (find p (x ∷ xs) ≡ Some y)))
+    by_test true is rest = inr (0, x, (found_here (p x) (prefix_len (λ y. not (p y)) xs) (length xs) is, rw is refl))
+    by_test false is (inl h) = inl (position_none_cons p x xs is h.0, rw is (h.1))
+    by_test false is (inr h) =
+        inr (suc (prefix_len (λ y. not (p y)) xs), h.1, (found_cons (p x) (prefix_len (λ y. not (p y)) xs) (length xs) h.0 is h.2.0, rw is (h.2.1)))
