@@ -10,3 +10,4 @@ pub mod Changes
 pub mod Puts
 pub mod SpotPaths
 pub mod PlacedLists
+pub mod PlacedNodes
