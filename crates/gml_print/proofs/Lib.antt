@@ -11,3 +11,4 @@ pub mod Puts
 pub mod SpotPaths
 pub mod PlacedLists
 pub mod PlacedNodes
+pub mod PlacedEdges

@@ -80,6 +80,43 @@ inside_same places pitch spots change key old new put same path =
     by_list (Some a) None = refl
     by_list (Some a) (Some list) = same (path ++ a ∷ []) list
 
+module _ (places : Places) (pitch : ℕ) where
+  abbrev pub placed_node : ℕ → List Pair → List Pair
+  placed_node n pairs = puts places pitch (node_spots [] n pairs) pairs
+
+  node_put : (n : ℕ) (pairs : List Pair) →
+      IsPutInside places pitch (codes "graphics") (λ list. puts places pitch (coordinate_spots [] n list) list) pairs (placed_node n pairs)
+  node_put n pairs = put_inside places pitch (λ path list. coordinate_spots path n list) (coordinates_relative n) (coordinates_lead n) (codes "graphics") pairs
+
+  pub same_node_spots : (n : ℕ) (pairs : List Pair) (path : List ℕ) → node_spots path n (placed_node n pairs) ≡ node_spots path n pairs
+  same_node_spots n pairs path =
+      inside_same places pitch (λ path list. coordinate_spots path n list) (λ list. puts places pitch (coordinate_spots [] n list) list) (codes "graphics") pairs (placed_node n pairs)
+      (node_put n pairs) (λ path list. same_coordinates places pitch n list path) path
+
+  -- the value of a pair of a line that is a list
+  abbrev pub placed_value : ℕ → Value → Value
+  placed_value v value = replaced_by places pitch (value_spots [] v value) value
+
+  pub value_list : (v : ℕ) (value : Value) →
+      list_in (placed_value v value) ≡ option_map (λ list. puts places pitch (coordinate_spots [] v list) list) (list_in value)
+  value_list v value =
+      replaced_by_list places pitch (value_spots [] v value) value (value_lead v value) ∙ by_list (list_in value)
+    where
+      by_list : (o : Option (List Pair)) → option_map (puts places pitch (option_map_or (λ list. coordinate_spots [] v list) o [])) o ≡
+          option_map (λ list. puts places pitch (coordinate_spots [] v list) list) o
+      by_list None = refl
+      by_list (Some list) = refl
+
+  pub same_value_spots : (v : ℕ) (value : Value) (path : List ℕ) → value_spots path v (placed_value v value) ≡ value_spots path v value
+  same_value_spots v value path =
+      ap (λ (o : Option (List Pair)). option_map_or (λ list. coordinate_spots path v list) o []) (value_list v value) ∙ by_list (list_in value)
+    where
+      by_list : (o : Option (List Pair)) →
+          option_map_or (λ list. coordinate_spots path v list) (option_map (λ list. puts places pitch (coordinate_spots [] v list) list) o) [] ≡
+          option_map_or (λ list. coordinate_spots path v list) o []
+      by_list None = refl
+      by_list (Some list) = same_coordinates places pitch v list path
+
 module _ (places : Places) (pitch : ℕ) (where_is : ℕ → Point)
     (tells : (axis : Axis) (v : ℕ) → thousandths_of (number_text (pos pitch *ℤ along axis (place places.xy v))) ≡ Ok (along axis (where_is v))) where
   new_number : (key : List ℕ) (axis : Axis) (v : ℕ) (new : List Pair) (pair : Pair) (number : Number) →
@@ -120,51 +157,15 @@ module _ (places : Places) (pitch : ℕ) (where_is : ℕ → Point)
       let some = some_of (numbers_in list) is in
       numbers_placed v list some.0 some.1 ∙ sym (ap (option_map (moved_numbers where_is v)) some.1)
 
-  abbrev pub placed_node : ℕ → List Pair → List Pair
-  placed_node n pairs = puts places pitch (node_spots [] n pairs) pairs
-
-  node_put : (n : ℕ) (pairs : List Pair) →
-      IsPutInside places pitch (codes "graphics") (λ list. puts places pitch (coordinate_spots [] n list) list) pairs (placed_node n pairs)
-  node_put n pairs = put_inside places pitch (λ path list. coordinate_spots path n list) (coordinates_relative n) (coordinates_lead n) (codes "graphics") pairs
-
   made_node : WholeNumber → Option Numbers → Node
   made_node id place = record { id = id; place = place }
 
   -- a node with its numerals put is the moved node
-  pub node_placed : (n : ℕ) (pairs : List Pair) → is_none (node_of pairs).place ≡ false → node_of (placed_node n pairs) ≡ moved_node where_is n (node_of pairs)
+  pub node_placed : (n : ℕ) (pairs : List Pair) → is_none (node_of pairs).place ≡ false → node_of (placed_node places pitch n pairs) ≡ moved_node where_is n (node_of pairs)
   unfolding made_node
   node_placed n pairs have =
-      let put = node_put n pairs in
-      ap (λ (o : Option Pair). made_node (option_map_or (λ (pair : Pair). whole_in pair.value) o Absent) (node_of (placed_node n pairs)).place)
+      let put = node_put places pitch n pairs in
+      ap (λ (o : Option Pair). made_node (option_map_or (λ (pair : Pair). whole_in pair.value) o Absent) (node_of (placed_node places pitch n pairs)).place)
           (put.others (codes "id") (apart_words (codes "graphics") (codes "id") refl))
       ∙ ap (made_node (whole_under (codes "id") pairs))
           (ap (option_and_then numbers_in) put.list ∙ place_placed n (first_list (codes "graphics") pairs) have)
-
-  pub same_node_spots : (n : ℕ) (pairs : List Pair) (path : List ℕ) → node_spots path n (placed_node n pairs) ≡ node_spots path n pairs
-  same_node_spots n pairs path =
-      inside_same places pitch (λ path list. coordinate_spots path n list) (λ list. puts places pitch (coordinate_spots [] n list) list) (codes "graphics") pairs (placed_node n pairs)
-      (node_put n pairs) (λ path list. same_coordinates places pitch n list path) path
-
-  -- the same of a value that is a list
-  abbrev pub placed_value : ℕ → Value → Value
-  placed_value v value = replaced_by places pitch (value_spots [] v value) value
-
-  pub value_list : (v : ℕ) (value : Value) →
-      list_in (placed_value v value) ≡ option_map (λ list. puts places pitch (coordinate_spots [] v list) list) (list_in value)
-  value_list v value =
-      replaced_by_list places pitch (value_spots [] v value) value (value_lead v value) ∙ by_list (list_in value)
-    where
-      by_list : (o : Option (List Pair)) → option_map (puts places pitch (option_map_or (λ list. coordinate_spots [] v list) o [])) o ≡
-          option_map (λ list. puts places pitch (coordinate_spots [] v list) list) o
-      by_list None = refl
-      by_list (Some list) = refl
-
-  pub same_value_spots : (v : ℕ) (value : Value) (path : List ℕ) → value_spots path v (placed_value v value) ≡ value_spots path v value
-  same_value_spots v value path =
-      ap (λ (o : Option (List Pair)). option_map_or (λ list. coordinate_spots path v list) o []) (value_list v value) ∙ by_list (list_in value)
-    where
-      by_list : (o : Option (List Pair)) →
-          option_map_or (λ list. coordinate_spots path v list) (option_map (λ list. puts places pitch (coordinate_spots [] v list) list) o) [] ≡
-          option_map_or (λ list. coordinate_spots path v list) o []
-      by_list None = refl
-      by_list (Some list) = same_coordinates places pitch v list path
