@@ -75,6 +75,66 @@ module _ (places : Places) (pitch : ℕ) where
   pub points_put : (span : Span) (pairs : List Pair) → puts places pitch (point_spots [] span 0 0 pairs) pairs ≡ placed_points span 0 pairs
   points_put span pairs = points_put_from span 0 0 pairs [] refl
 
+  -- the spots of the points stay where they are
+  same_point_spots : (span : Span) (at p : ℕ) (pairs : List Pair) (path : List ℕ) →
+      point_spots path span at p (placed_points span p pairs) ≡ point_spots path span at p pairs
+  same_point_spots span at p [] path = refl
+  same_point_spots span at p (pair ∷ pairs) path =
+      by_test (has_key (codes "point") pair) refl (same_point_spots span (at + 1) (p + 1) pairs path) (same_point_spots span (at + 1) p pairs path)
+    where
+      by_test : (b : Bool) → has_key (codes "point") pair ≡ b →
+          point_spots path span (at + 1) (p + 1) (placed_points span (p + 1) pairs) ≡ point_spots path span (at + 1) (p + 1) pairs →
+          point_spots path span (at + 1) p (placed_points span p pairs) ≡ point_spots path span (at + 1) p pairs →
+          point_spots path span at p (cond b (placed_point (point_vertex span p) pair ∷ placed_points span (p + 1) pairs) (pair ∷ placed_points span p pairs)) ≡
+          cond b (value_spots (path ++ at ∷ []) (point_vertex span p) pair.value ++ point_spots path span (at + 1) (p + 1) pairs) (point_spots path span (at + 1) p pairs)
+      by_test true is one more = rw is (rw (one, same_value_spots places pitch (point_vertex span p) pair.value (path ++ at ∷ [])) refl)
+      by_test false is one more = rw is more
+
+  abbrev pub put_points : Span → List Pair → List Pair
+  put_points span points = puts places pitch (point_spots [] span 0 0 points) points
+
+  abbrev pub put_line : Span → List Pair → List Pair
+  put_line span list = puts places pitch (line_spots [] span list) list
+
+  abbrev pub placed_edge : Span → List Pair → List Pair
+  placed_edge span pairs = puts places pitch (edge_spots [] span pairs) pairs
+
+  pub line_put : (span : Span) (list : List Pair) → IsPutInside places pitch (codes "Line") (put_points span) list (put_line span list)
+  line_put span list = put_inside places pitch (λ path points. point_spots path span 0 0 points) (points_relative span 0 0) (points_lead span) (codes "Line") list
+
+  pub edge_put : (span : Span) (pairs : List Pair) → IsPutInside places pitch (codes "graphics") (put_line span) pairs (placed_edge span pairs)
+  edge_put span pairs = put_inside places pitch (λ path list. line_spots path span list) (line_relative span) (line_leads span) (codes "graphics") pairs
+
+  same_line_spots : (span : Span) (path : List ℕ) (list : List Pair) → line_spots path span (put_line span list) ≡ line_spots path span list
+  same_line_spots span path list =
+      inside_same places pitch (λ path points. point_spots path span 0 0 points) (put_points span) (codes "Line") list (put_line span list) (line_put span list)
+      (λ path points. ap (point_spots path span 0 0) (points_put span points) ∙ same_point_spots span 0 0 points path) path
+
+  pub same_edge_spots : (span : Span) (pairs : List Pair) (path : List ℕ) → edge_spots path span (placed_edge span pairs) ≡ edge_spots path span pairs
+  same_edge_spots span pairs path =
+      inside_same places pitch (λ path list. line_spots path span list) (put_line span) (codes "graphics") pairs (placed_edge span pairs) (edge_put span pairs)
+      (same_line_spots span) path
+
+  -- the line of an edge with its numerals put
+  line_of_placed : (span : Span) (pairs : List Pair) → line_of (placed_edge span pairs) ≡ placed_points span 0 (line_of pairs)
+  line_of_placed span pairs =
+      ap (λ (o : Option (List Pair)). unwrap_or (option_and_then (first_list (codes "Line")) o) []) (edge_put span pairs).list ∙ by_graphics (first_list (codes "graphics") pairs)
+    where
+      by_line : (o : Option (List Pair)) → unwrap_or (option_map (put_points span) o) [] ≡ placed_points span 0 (unwrap_or o [])
+      by_line None = refl
+      by_line (Some points) = points_put span points
+
+      by_graphics : (o : Option (List Pair)) → unwrap_or (option_and_then (first_list (codes "Line")) (option_map (put_line span) o)) [] ≡
+          placed_points span 0 (unwrap_or (option_and_then (first_list (codes "Line")) o) [])
+      by_graphics None = refl
+      by_graphics (Some list) = ap (λ (o : Option (List Pair)). unwrap_or o []) (line_put span list).list ∙ by_line (first_list (codes "Line") list)
+
+made_edge : WholeNumber → WholeNumber → List (Option Numbers) → Edge
+made_edge source target points = record { source = source; target = target; points = points }
+
+same_edges : (a b c d : WholeNumber) (p q : List (Option Numbers)) → a ≡ b → c ≡ d → p ≡ q → made_edge a c p ≡ made_edge b d q
+same_edges a b c d p q first second third = cc
+
 module _ (places : Places) (pitch : ℕ) (where_is : ℕ → Point)
     (tells : (axis : Axis) (v : ℕ) → thousandths_of (number_text (pos pitch *ℤ along axis (place places.xy v))) ≡ Ok (along axis (where_is v))) where
   -- a point with its numerals put stands at its vertex's new place
@@ -99,3 +159,18 @@ module _ (places : Places) (pitch : ℕ) (where_is : ℕ → Point)
           rw is (rw (one (have.1))
           (ap (λ point. point ∷ moved_points where_is span (p + 1) (filter_map point_in pairs)) (point_placed (point_vertex span p) pair.value (have.0))))
       by_test false is have one more = rw is (more have)
+
+  -- an edge with its numerals put is the moved edge
+  pub edge_placed : (span : Span) (pairs : List Pair) → HavePoints (edge_of pairs).points → edge_of (placed_edge places pitch span pairs) ≡ moved_edge where_is span (edge_of pairs)
+  unfolding made_edge
+  edge_placed span pairs have =
+      let put = edge_put places pitch span pairs in
+      let new = placed_edge places pitch span pairs in
+      let source : whole_under (codes "source") new ≡ whole_under (codes "source") pairs =
+      ap (λ (o : Option Pair). option_map_or (λ (pair : Pair). whole_in pair.value) o Absent) (put.others (codes "source") (apart_words (codes "graphics") (codes "source") refl)) in
+      let target : whole_under (codes "target") new ≡ whole_under (codes "target") pairs =
+      ap (λ (o : Option Pair). option_map_or (λ (pair : Pair). whole_in pair.value) o Absent) (put.others (codes "target") (apart_words (codes "graphics") (codes "target") refl)) in
+      let points : filter_map point_in (line_of new) ≡ moved_points where_is span 0 (filter_map point_in (line_of pairs)) =
+      ap (filter_map point_in) (line_of_placed places pitch span pairs) ∙ points_placed span 0 (line_of pairs) have in
+      same_edges (whole_under (codes "source") new) (whole_under (codes "source") pairs) (whole_under (codes "target") new) (whole_under (codes "target") pairs)
+      (filter_map point_in (line_of new)) (moved_points where_is span 0 (filter_map point_in (line_of pairs))) source target points
