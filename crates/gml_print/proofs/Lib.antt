@@ -12,3 +12,4 @@ pub mod SpotPaths
 pub mod PlacedLists
 pub mod PlacedNodes
 pub mod PlacedEdges
+pub mod PlacedGraphs

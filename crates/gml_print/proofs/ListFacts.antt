@@ -71,3 +71,14 @@ find_position {X} p (x ∷ xs) = by_test (p x) refl (find_position p xs)
     by_test false is (inl h) = inl (position_none_cons p x xs is h.0, rw is (h.1))
     by_test false is (inr h) =
         inr (suc (prefix_len (λ y. not (p y)) xs), h.1, (found_cons (p x) (prefix_len (λ y. not (p y)) xs) (length xs) h.0 is h.2.0, rw is (h.2.1)))
+
+pub position_here : {X : Type 0} (p : X → Bool) (x : X) (xs : List X) → p x ≡ true → position p (x ∷ xs) ≡ Some 0
+position_here p x xs passes = found_here (p x) (prefix_len (λ y. not (p y)) xs) (length xs) passes
+
+found_later : (b : Bool) (k n a : ℕ) → b ≡ false → cond (nat_lt k n) (Some k) None ≡ Some a →
+    cond (nat_lt (cond (not b) (1 + k) 0) (suc n)) (Some (cond (not b) (1 + k) 0)) None ≡ Some (suc a)
+found_later true k n a fails is = cc
+found_later false k n a fails is = grind (arith, nat_tests)
+
+pub position_later : {X : Type 0} (p : X → Bool) (x : X) (xs : List X) (a : ℕ) → p x ≡ false → position p xs ≡ Some a → position p (x ∷ xs) ≡ Some (suc a)
+position_later p x xs a fails is = found_later (p x) (prefix_len (λ y. not (p y)) xs) (length xs) a fails is
