@@ -13,3 +13,4 @@ pub mod PlacedLists
 pub mod PlacedNodes
 pub mod PlacedEdges
 pub mod PlacedGraphs
+pub mod PlacedReadings

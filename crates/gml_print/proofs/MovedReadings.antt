@@ -70,6 +70,12 @@ some_node (node ∷ nodes) is = omega arith
 no_numbers : (numbers : List Number) → filter_map refused_in numbers ≡ [] → first_refused numbers ≡ None
 no_numbers numbers is = rw is refl
 
+-- each node of a graph without a fault has a place, and each point both numbers
+pub written_parts : (graph : Graph) → graph_fault graph ≡ None → HavePlaces graph.nodes × EdgesHavePoints graph.edges
+written_parts graph is =
+    let parts = faultless_parts graph is in
+    (have_places graph.nodes parts.places, points_there (number_of_id (ids_of graph.nodes)) graph.edges parts.edges)
+
 -- the graph with each vertex at its new place
 abbrev pub moved_graph : (ℕ → Point) → Graph → Graph
 moved_graph where_is graph = record {
