@@ -90,10 +90,10 @@ module _ (places : Places) (pitch : ℕ) (spans : List Span) where
   same_node_pair path n None = refl
   same_node_pair path n (Some list) = same_node_spots places pitch n list path
 
-  same_edge_pair : (path : List ℕ) (span : Span) (o : Option (List Pair)) →
-      option_map_or (λ list. edge_spots path span list) (option_map (placed_edge places pitch span) o) [] ≡ option_map_or (λ list. edge_spots path span list) o []
-  same_edge_pair path span None = refl
-  same_edge_pair path span (Some list) = same_edge_spots places pitch span list path
+  same_edge_pair : (path : List ℕ) (edge : Span) (o : Option (List Pair)) →
+      option_map_or (λ list. edge_spots path edge list) (option_map (placed_edge places pitch edge) o) [] ≡ option_map_or (λ list. edge_spots path edge list) o []
+  same_edge_pair path edge None = refl
+  same_edge_pair path edge (Some list) = same_edge_spots places pitch edge list path
 
   same_pair_spots : (path : List ℕ) (n e : ℕ) (pair : Pair) → pair_spots path spans n e (placed_pair n e pair) ≡ pair_spots path spans n e pair
   same_pair_spots path n e pair =
