@@ -51,7 +51,7 @@ pub completes_done : (words : List (List ℕ)) (command asked : Command) (left :
 completes_done words command asked left text bytes written right asks read end output =
     let same = read_whole left text bytes read end in
     let valid : IsValid asked text = subst (λ (c : Command). IsValid c text) (one_command words command asked right asks)
-            (subst (λ (t : List ℕ). IsValid command t) (sym same) (output-valid command bytes written output)) in
+    (subst (λ (t : List ℕ). IsValid command t) (sym same) (output-valid command bytes written output)) in
     record { done = λ v. inl refl; refused = λ why fault. absurd (valid-faultless asked text why valid fault) }
 
 -- a run that found the first fault of the text
@@ -60,5 +60,5 @@ pub completes_refused : (words : List (List ℕ)) (command asked : Command) (lef
 completes_refused words command asked left text bytes why right asks read end fault =
     let same = read_whole left text bytes read end in
     let first : FirstFault asked text why = subst (λ (c : Command). FirstFault c text why) (one_command words command asked right asks)
-            (subst (λ (t : List ℕ). FirstFault command t why) (sym same) fault) in
+    (subst (λ (t : List ℕ). FirstFault command t why) (sym same) fault) in
     record { done = λ valid. absurd (valid-faultless asked text why valid first); refused = λ other found. inl (ap (λ w. Refused w) (one_fault asked text why other first found)) }

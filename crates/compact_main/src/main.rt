@@ -8,9 +8,9 @@ use std::process::ExitCode;
 use std::{env, io};
 
 pub mod chain;
+pub mod command;
 pub mod note;
 pub mod notify;
-pub mod command;
 pub mod run;
 pub mod status;
 
@@ -36,7 +36,10 @@ fn main(rt: HostRuntime) -> ExitCode {
             &mut StdSink::new(rt.stdout()),
             &mut StdSink::new(rt.stderr()),
         ),
-        Err(status) => status,
+        Err(status) => {
+            notify::notify(&mut StdSink::new(rt.stderr()), status);
+            status
+        }
     };
     ExitCode::from(status.number())
 }

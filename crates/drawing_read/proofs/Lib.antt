@@ -3,3 +3,9 @@ pub mod Steps
 pub mod ThousandthsLemmas
 pub mod RefusedLemmas
 pub mod IdLemmas
+pub mod SmallLemmas
+pub mod RouteLemmas
+pub mod FaultOrder
+pub mod EndLemmas
+pub mod GraphLemmas
+pub mod ReadingLemmas

@@ -1,9 +1,8 @@
 -- The refused number with the least offset, number by number.
-use Rattle.std.proofs.Common.{◌≡◌, List, [], ◌∷◌, ◌++◌, Option, None, Some, fold, refl, sym, ap, ◌∙◌}
+use Rattle.std.proofs.Common.{◌≡◌, List, [], ◌∷◌, Option, None, Some, fold, refl, sym, ap, ◌∙◌}
 use Rattle.std.specs.List.{flat_map, filter_map, cons_option, reduce}
 use Rattle.std.proofs.lemmas.List.Sums.{fold-append}
 use Rattle.drawing_read.specs.declared.written.Number.{Number}
-use Rattle.drawing_read.specs.declared.written.Numbers.{Numbers}
 use Rattle.drawing_read.specs.declared.written.RefusedNumber.{RefusedNumber}
 use Rattle.drawing_read.specs.declared.written.Node.{Node}
 use Rattle.drawing_read.specs.declared.written.Edge.{Edge}

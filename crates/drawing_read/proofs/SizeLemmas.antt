@@ -1,5 +1,5 @@
 -- What a readable list says of its pairs, and a readable pair of its value.
-use Rattle.std.proofs.Common.{◌≡◌, ℕ, zero, suc, ◌+◌, ◌<◌, ◌≤◌, Bool, true, false, ◌&&◌, List, [], ◌∷◌, map, length, get_or, Option, None, Some, refl, sym, ap, ◌∙◌, subst, sum_by, ◌⊎◌, ⊎_elim, is_some, arith}
+use Rattle.std.proofs.Common.{◌≡◌, ℕ, zero, suc, ◌+◌, ◌<◌, ◌≤◌, Bool, true, false, ◌&&◌, List, [], ◌∷◌, map, length, get_or, refl, sym, ap, ◌∙◌, subst, sum_by, ◌⊎◌, ⊎_elim, is_some, arith}
 use Rattle.gml_text.proofs.NumeralLaws.{kind_of-whole}
 use Rattle.std.proofs.lemmas.Bool.{false≢true}
 use Rattle.std.specs.List.{list_all}
@@ -8,13 +8,12 @@ use Rattle.gml_text.specs.declared.tree.Tree.{Tree, out-Tree, fold_out-Tree}
 use Rattle.gml_text.specs.declared.tree.Pair.{Pair, fold_out-Pair}
 use Rattle.gml_text.specs.declared.tree.Value.{Value, out-Value, fold-Value, fold-roll-Value, fold_out-Value}
 use Rattle.gml_text.specs.declared.tree.Value.TheOpen as layer
-use Rattle.gml_text.specs.declared.tree.Value.TheVariants.{Whole, Real, Text, Inner, rolls-Inner}
+use Rattle.gml_text.specs.declared.tree.Value.TheVariants.{Whole, Real, Inner, rolls-Inner}
 use Rattle.gml_text.specs.Bytes.{is_key}
 use Rattle.gml_text.specs.Numerals.{is_whole_numeral}
 use Rattle.gml_text.specs.NumeralKinds.{is_numeral}
-use Rattle.gml_text.specs.Grammar.{value_is_within, pair_is_within, list_is_within, is_within_grammar, pairs_in_value, pairs_with_value, pairs_in_list, pair_count, IsReadable}
+use Rattle.gml_text.specs.Grammar.{value_has_right_words, pair_has_right_words, list_has_right_words, has_right_words, pairs_in_value, pairs_with_value, pairs_in_list, pair_count, IsReadable}
 use Rattle.drawing_read.specs.Sizes.{is_pair_within, weight_of, most_pairs, IsReadablePair, AreReadable}
-use Rattle.drawing_read.specs.Lookups.{list_in}
 
 and_both : (a b : Bool) → (a && b) ≡ true → (a ≡ true) × (b ≡ true)
 and_both true b both = (refl, both)
@@ -25,21 +24,21 @@ list_all-map f [] = refl
 list_all-map f (pair ∷ pairs) = ap (λ rest. f pair && rest) (list_all-map f pairs)
 
 abbrev is_value_within : Value → Bool
-is_value_within = fold-Value Bool Bool Bool value_is_within pair_is_within list_is_within
+is_value_within = fold-Value Bool Bool Bool value_has_right_words pair_has_right_words list_has_right_words
 
-abbrev pairs_inside : Value → ℕ
+abbrev pub pairs_inside : Value → ℕ
 pairs_inside = fold-Value ℕ ℕ ℕ pairs_in_value pairs_with_value pairs_in_list
 
-tree_words : (tree : Tree) → is_within_grammar tree ≡ list_all is_pair_within (out-Tree tree).pairs
-tree_words tree = fold_out-Tree Bool Bool Bool value_is_within pair_is_within list_is_within tree ∙ list_all-map is_pair_within (out-Tree tree).pairs
+tree_words : (tree : Tree) → has_right_words tree ≡ list_all is_pair_within (out-Tree tree).pairs
+tree_words tree = fold_out-Tree Bool Bool Bool value_has_right_words pair_has_right_words list_has_right_words tree ∙ list_all-map is_pair_within (out-Tree tree).pairs
 
 pub tree_count : (tree : Tree) → pair_count tree ≡ sum_by weight_of (out-Tree tree).pairs
 tree_count tree = fold_out-Tree ℕ ℕ ℕ pairs_in_value pairs_with_value pairs_in_list tree ∙ sum-map weight_of (out-Tree tree).pairs
 
-inner_words : (tree : Tree) → is_value_within (Inner tree) ≡ is_within_grammar tree
-inner_words tree = ap is_value_within (sym (rolls-Inner tree)) ∙ fold-roll-Value Bool Bool Bool value_is_within pair_is_within list_is_within (layer.Inner tree)
+inner_words : (tree : Tree) → is_value_within (Inner tree) ≡ has_right_words tree
+inner_words tree = ap is_value_within (sym (rolls-Inner tree)) ∙ fold-roll-Value Bool Bool Bool value_has_right_words pair_has_right_words list_has_right_words (layer.Inner tree)
 
-inner_count : (tree : Tree) → pairs_inside (Inner tree) ≡ pair_count tree
+pub inner_count : (tree : Tree) → pairs_inside (Inner tree) ≡ pair_count tree
 inner_count tree = ap pairs_inside (sym (rolls-Inner tree)) ∙ fold-roll-Value ℕ ℕ ℕ pairs_in_value pairs_with_value pairs_in_list (layer.Inner tree)
 
 pub readable_tree : (tree : Tree) → IsReadable tree → AreReadable (out-Tree tree).pairs
@@ -49,7 +48,7 @@ readable_tree tree readable = record {
 }
 
 pair_words : (pair : Pair) → is_pair_within pair ≡ (is_key pair.key && is_value_within pair.value)
-pair_words pair = fold_out-Pair Bool Bool Bool value_is_within pair_is_within list_is_within pair
+pair_words pair = fold_out-Pair Bool Bool Bool value_has_right_words pair_has_right_words list_has_right_words pair
 
 pub pair_weight : (pair : Pair) → weight_of pair ≡ pairs_inside pair.value + 1
 pair_weight pair = fold_out-Pair ℕ ℕ ℕ pairs_in_value pairs_with_value pairs_in_list pair
@@ -69,11 +68,11 @@ readable_list pair tree is readable =
 
 whole_within : (word : List ℕ) → is_value_within (Whole word) ≡ is_whole_numeral word
 unfolding out-Value denote.Hole.Carrier.out
-whole_within word = fold_out-Value Bool Bool Bool value_is_within pair_is_within list_is_within (Whole word)
+whole_within word = fold_out-Value Bool Bool Bool value_has_right_words pair_has_right_words list_has_right_words (Whole word)
 
 real_within : (word : List ℕ) → is_value_within (Real word) ≡ is_numeral word
 unfolding out-Value denote.Hole.Carrier.out
-real_within word = fold_out-Value Bool Bool Bool value_is_within pair_is_within list_is_within (Real word)
+real_within word = fold_out-Value Bool Bool Bool value_has_right_words pair_has_right_words list_has_right_words (Real word)
 
 -- the word of a readable pair's whole numeral is one
 pub whole_word : (pair : Pair) (word : List ℕ) → pair.value ≡ Whole word → IsReadablePair pair → is_whole_numeral word ≡ true

@@ -1,6 +1,6 @@
 -- The value of a numeral in thousandths is one number, or there is none.
 use Rattle.std.specs.Prelude.{◌↔◌, unsigned_abs, int_div}
-use Rattle.std.proofs.Common.{◌≡◌, ℕ, zero, suc, ◌+◌, ◌*◌, ◌/◌, ◌^◌, ◌<◌, ◌≤◌, ℤ, pos, negsuc, ◌+ℤ◌, ◌-ℤ◌, ◌*ℤ◌, neg_ℤ, Bool, true, false, List, Option, None, Some, Result, Ok, Err, refl, ap, sym, ◌∙◌, arith, subst, nat_le, cond, MatchOption, IsTrue}
+use Rattle.std.proofs.Common.{◌≡◌, ℕ, suc, ◌+◌, ◌*◌, ◌/◌, ◌^◌, ◌<◌, ◌≤◌, ℤ, pos, negsuc, ◌+ℤ◌, ◌*ℤ◌, neg_ℤ, Bool, true, false, List, Option, None, Some, Result, Ok, Err, refl, ap, sym, ◌∙◌, arith, nat_le, cond, MatchOption}
 use Rattle.std.specs.Ordering.{int_eq}
 use Rattle.std.proofs.lemmas.Int.{ints, unsigned_abs-mul}
 use Rattle.std.proofs.lemmas.Bool.{false≢true}
@@ -14,7 +14,7 @@ use Rattle.gml_text.specs.Numerals.{Numeral, HasParts, mantissa, power_of_ten, I
 use Rattle.gml_text.specs.NumeralKinds.{parts_of, is_numeral}
 use Rattle.gml_text.proofs.NumeralLaws.{numeral_has_parts}
 use Rattle.gml_text.proofs.NumeralParts.{parts_of-is}
-use Rattle.drawing_read.specs.Thousandths.{exact_quotient, times_ten, within_range, thousandths_of}
+use Rattle.drawing_read.specs.Thousandths.{times_ten, within_range, thousandths_of}
 
 -- a quotient without rest is the only one
 only_quotient : (m t : ℤ) (d : ℕ) → 0 < d → t *ℤ pos d ≡ m → int_div m (pos d) *ℤ pos d ≡ m

@@ -17,7 +17,7 @@ use Rattle.drawing_read.specs.declared.written.Edge.{Edge}
 use Rattle.drawing_read.specs.declared.written.Graph.{Graph}
 use Rattle.drawing_read.specs.Lookups.{lists_under}
 use Rattle.drawing_read.specs.WrittenGraphs.{graph_of}
-use Rattle.drawing_read.specs.Routes.{fitting, ids_of, number_of_id, node_with, points_in, pieces_in}
+use Rattle.drawing_read.specs.Routes.{ids_of, number_of_id, node_with, points_in, pieces_in}
 
 abbrev pub is_absent : WholeNumber → Bool
 is_absent Absent = true
@@ -87,19 +87,22 @@ bad_point_from e (edge ∷ edges) = option_or (option_map (λ p. BadPoint e p) (
 abbrev pub too_many : ℕ → ℕ → Option ℕ
 too_many most count = if nat_lt most count then Some count else None
 
--- the faults of a graph's nodes by themselves
-abbrev pub node_fault : List Node → Option DrawFault
-node_fault nodes =
+-- a graph without a node, a node without an id, a node with a bad one
+abbrev pub id_fault : List Node → Option DrawFault
+id_fault nodes =
     option_or (if nat_lt 0 (length nodes) then None else Some Empty)
     (option_or (option_map (λ n. NoId n) (position (λ node. is_absent node.id) nodes))
     (option_map (λ n. BadId n) (position (λ node. is_unfit node.id) nodes)))
 
--- the next three kinds: an id that an earlier node has, a node without a place, and a refused number
+-- a node with the id of an earlier one
+abbrev pub repeated_fault : List Node → Option DrawFault
+repeated_fault nodes = option_map (λ n. RepeatedId n) (first_repeated (ids_of nodes))
+
+-- a node without a place, a refused number
 abbrev pub place_fault : Graph → Option DrawFault
 place_fault graph =
-    option_or (option_map (λ n. RepeatedId n) (first_repeated (ids_of graph.nodes)))
-    (option_or (option_map (λ n. NoPlace n) (position (λ node. is_none node.place) graph.nodes))
-    (option_map (λ number. BadNumber number.at number.cause) (first_refused (numbers_of graph))))
+    option_or (option_map (λ n. NoPlace n) (position (λ node. is_none node.place) graph.nodes))
+    (option_map (λ number. BadNumber number.at number.cause) (first_refused (numbers_of graph)))
 
 -- the faults of its edges, where `look` tells which node has an id
 abbrev pub edge_fault : (ℤ → Option ℕ) → List Edge → Option DrawFault
@@ -115,10 +118,11 @@ size_fault vertices pieces =
 -- the first fault of what is written in a graph
 abbrev pub graph_fault : Graph → Option DrawFault
 graph_fault graph =
-    option_or (node_fault graph.nodes)
+    option_or (id_fault graph.nodes)
+    (option_or (repeated_fault graph.nodes)
     (option_or (place_fault graph)
-        (option_or (edge_fault (number_of_id (ids_of graph.nodes)) graph.edges)
-            (size_fault (length (points_in graph)) (length (pieces_in graph)))))
+    (option_or (edge_fault (number_of_id (ids_of graph.nodes)) graph.edges)
+    (size_fault (length (points_in graph)) (length (pieces_in graph))))))
 
 -- the first fault where these are the graphs at the top
 abbrev pub fault_of : List (List Pair) → Option DrawFault

@@ -1,8 +1,8 @@
 -- Pairs by their keys.
-use Rattle.std.specs.Prelude.{ℕ, Bool, List, [], Option, None, Some, if◌then◌else◌, option_and_then, unwrap_or}
-use Rattle.std.specs.List.{find, filter, filter_map, position}
+use Rattle.std.specs.Prelude.{ℕ, Bool, List, Option, None, Some, if◌then◌else◌, option_and_then}
+use Rattle.std.specs.List.{find, filter_map, position}
 use Rattle.std.specs.Str.{bytes_eq}
-use Rattle.gml_text.specs.declared.tree.Tree.{Tree, out-Tree}
+use Rattle.gml_text.specs.declared.tree.Tree.{out-Tree}
 use Rattle.gml_text.specs.declared.tree.Pair.{Pair}
 use Rattle.gml_text.specs.declared.tree.Value.{Value}
 use Rattle.gml_text.specs.declared.tree.Value.TheVariants.{Whole, Real, Text, Inner}

@@ -1,7 +1,11 @@
 -- What single passes of the reading answer.
-use Rattle.std.specs.Prelude.{◌≡◌, ℕ, ℤ, List, [], ◌∷◌, Option, None, Some, fold, nat_eq}
-use Rattle.std.specs.Ordering.{int_eq}
-use Rattle.std.specs.Option.{option_map}
+use Rattle.std.specs.Prelude.{◌≡◌, ℕ, ◌+◌, ◌<◌, ◌≤◌, true, List, [], Option, None, Some, fold, length, sum_by, All, is_some, slice_index_or, codes}
+use Rattle.std.specs.List.{position, cons_option}
+use Rattle.gml_text.specs.declared.tree.Pair.{Pair}
+use Rattle.drawing_read.specs.declared.written.Edge.{Edge}
+use Rattle.drawing_read.specs.declared.written.Graph.{Graph}
+use Rattle.drawing_read.specs.Lookups.{list_under, lists_under}
+use Rattle.drawing_read.specs.Sizes.{most_pairs}
 use Rattle.drawing_read.specs.declared.written.Number.{Number}
 use Rattle.drawing_read.specs.declared.written.Numbers.{Numbers}
 use Rattle.drawing_read.specs.declared.written.RefusedNumber.{RefusedNumber}
@@ -20,3 +24,21 @@ with_number best number = first_of best (refused_in number)
 -- the same, where the numbers of one more place are seen
 abbrev pub with_numbers : Option RefusedNumber → Option Numbers → Option RefusedNumber
 with_numbers best numbers = fold with_number best (both_numbers numbers)
+
+-- how many points the edges have together
+abbrev pub point_count : List Edge → ℕ
+point_count edges = sum_by (λ (edge : Edge). length edge.points) edges
+
+-- what is written in a graph is not too much to be counted
+pub record IsSmall (graph : Graph) : Type 0 where
+  pub nodes : length graph.nodes ≤ most_pairs
+  pub edges : length graph.edges ≤ most_pairs
+  pub points : All (λ (edge : Edge). length edge.points ≤ most_pairs) graph.edges
+  pub vertices : length graph.nodes + point_count graph.edges ≤ most_pairs
+
+-- the pair at this place is the only graph
+pub record IsOnlyGraph (pairs : List Pair) (at : ℕ) : Type 0 where
+  pub within : at < length pairs
+  pub place : position (λ pair. is_some (list_under (codes "graph") pair)) pairs ≡ Some at
+  pub only : (d : Pair) → lists_under (codes "graph") pairs ≡ cons_option (list_under (codes "graph") (slice_index_or pairs at d)) []
+  pub there : (d : Pair) → is_some (list_under (codes "graph") (slice_index_or pairs at d)) ≡ true

@@ -1,5 +1,5 @@
 -- What a drawing is that a tree holds: its plan, the places of its vertices, and its spots.
-use Rattle.std.specs.Prelude.{◌≡◌, ℕ, List, [], ◌∷◌, length, Option, None, Some, codes, unwrap_or, is_some}
+use Rattle.std.specs.Prelude.{◌≡◌, ℕ, List, [], ◌∷◌, length, None, codes, unwrap_or, is_some}
 use Rattle.std.specs.List.{position}
 use Rattle.gml_text.specs.declared.tree.Tree.{Tree, out-Tree}
 use Rattle.gml_text.specs.declared.tree.Pair.{Pair}

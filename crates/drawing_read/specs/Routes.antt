@@ -7,7 +7,6 @@ use Rattle.gml_text.specs.declared.number.NumberFault.{NumberFault}
 use Rattle.compact_types.specs.declared.places.Point.{Point}
 use Rattle.compact_types.specs.declared.plan.Piece.{Piece}
 use Rattle.compact_types.specs.Lookups.{origin, place}
-use Rattle.drawing_read.specs.declared.written.Number.{Number}
 use Rattle.drawing_read.specs.declared.written.Numbers.{Numbers}
 use Rattle.drawing_read.specs.declared.written.WholeNumber.{WholeNumber}
 use Rattle.drawing_read.specs.declared.written.WholeNumber.TheVariants.{Absent, Other, Beyond, Fits}

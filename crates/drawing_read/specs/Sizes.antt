@@ -3,11 +3,11 @@
 use Rattle.std.specs.Prelude.{◌≡◌, ℕ, ◌≤◌, Bool, true, List, sum_by}
 use Rattle.std.specs.List.{list_all}
 use Rattle.gml_text.specs.declared.tree.Pair.{Pair, fold-Pair}
-use Rattle.gml_text.specs.Grammar.{value_is_within, pair_is_within, list_is_within, pairs_in_value, pairs_with_value, pairs_in_list}
+use Rattle.gml_text.specs.Grammar.{value_has_right_words, pair_has_right_words, list_has_right_words, pairs_in_value, pairs_with_value, pairs_in_list}
 
 -- the key of the pair is one and its words are numerals, at every depth
 abbrev pub is_pair_within : Pair → Bool
-is_pair_within = fold-Pair Bool Bool Bool value_is_within pair_is_within list_is_within
+is_pair_within = fold-Pair Bool Bool Bool value_has_right_words pair_has_right_words list_has_right_words
 
 -- one for the pair, and the pairs inside it
 abbrev pub weight_of : Pair → ℕ

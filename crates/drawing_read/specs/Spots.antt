@@ -1,8 +1,7 @@
 -- Where the coordinates of nodes and points stand in a tree, in document order.
-use Rattle.std.specs.Prelude.{ℕ, ◌+◌, ◌-◌, List, [], ◌∷◌, ◌++◌, slice_index_or, Option, None, Some, if◌then◌else◌, option_and_then, nat_lt, codes}
+use Rattle.std.specs.Prelude.{ℕ, ◌+◌, ◌-◌, List, [], ◌∷◌, ◌++◌, slice_index_or, Option, None, Some, if◌then◌else◌, nat_lt, codes}
 use Rattle.std.specs.Option.{option_map_or}
 use Rattle.gml_text.specs.declared.tree.Pair.{Pair}
-use Rattle.gml_text.specs.declared.tree.Value.{Value}
 use Rattle.compact_types.specs.declared.places.Axis.{Axis}
 use Rattle.compact_types.specs.declared.places.Axis.TheVariants.{X, Y}
 use Rattle.drawing_read.specs.declared.reading.Spot.{Spot}

@@ -1,5 +1,5 @@
 -- The value of a numeral in thousandths, as a function.
-use Rattle.std.specs.Prelude.{ℕ, suc, ◌+◌, ◌^◌, pos, negsuc, ℤ, ◌+ℤ◌, ◌*ℤ◌, List, Option, None, Some, Result, Ok, Err, if◌then◌else◌, nat_le, unsigned_abs, int_div}
+use Rattle.std.specs.Prelude.{ℕ, ◌+◌, ◌^◌, pos, negsuc, ℤ, ◌+ℤ◌, ◌*ℤ◌, List, Option, None, Some, Result, Ok, Err, if◌then◌else◌, nat_le, unsigned_abs, int_div}
 use Rattle.std.specs.Ordering.{int_eq}
 use Rattle.gml_text.specs.declared.number.NumberFault.{NumberFault}
 use Rattle.gml_text.specs.declared.number.NumberFault.TheVariants.{TooFine, OutOfRange}

@@ -1,5 +1,5 @@
 -- What is written in a graph: its nodes with their ids and places, its edges with their ends and points.
-use Rattle.std.specs.Prelude.{ℕ, ◌-◌, ◌^◌, pos, ℤ, ◌-ℤ◌, Bool, ◌&&◌, List, [], ◌∷◌, map, Option, None, Some, if◌then◌else◌, option_and_then, unwrap_or, codes, int_le}
+use Rattle.std.specs.Prelude.{ℕ, ◌-◌, ◌^◌, pos, ℤ, ◌-ℤ◌, Bool, ◌&&◌, List, [], Option, None, Some, if◌then◌else◌, option_and_then, unwrap_or, codes, int_le}
 use Rattle.std.specs.List.{filter_map}
 use Rattle.std.specs.Option.{option_map, option_map_or}
 use Rattle.gml_text.specs.declared.tree.Pair.{Pair}

@@ -10,7 +10,8 @@ ghost use Rattle.drawing_read.specs.DrawFaults as faults;
 
 use crate::fault::DrawFault;
 use crate::ids::has_unknown_end;
-use crate::written::{Edge, Node, Numbers, WholeNumber};
+use crate::numbers::first_refused;
+use crate::written::{Edge, Graph, Node, Numbers, WholeNumber};
 use indexmap::IndexMap;
 
 /// Whether there is no such key.
@@ -92,9 +93,9 @@ fn bad_id(nodes: &[Node]) -> Option<DrawFault>
 }
 
 /// A graph without a node, a node without an id, or a node with a bad one.
-pub(crate) fn node_fault(nodes: &[Node]) -> Option<DrawFault>
+pub(crate) fn id_fault(nodes: &[Node]) -> Option<DrawFault>
     requires { length nodes.now ≤ most_pairs }
-    ensures { result ≡ faults.node_fault nodes.now }
+    ensures { result ≡ faults.id_fault nodes.now }
 {
     if nodes.is_empty() {
         return Some(DrawFault::Empty);
@@ -103,7 +104,7 @@ pub(crate) fn node_fault(nodes: &[Node]) -> Option<DrawFault>
 }
 
 /// A node without a place.
-pub(crate) fn no_place(nodes: &[Node]) -> Option<DrawFault>
+fn no_place(nodes: &[Node]) -> Option<DrawFault>
     requires { length nodes.now ≤ most_pairs }
     ensures { result ≡ option_map (λ n. DrawFault.NoPlace n) (position (λ node. is_none node.place) nodes.now) }
 {
@@ -111,7 +112,7 @@ pub(crate) fn no_place(nodes: &[Node]) -> Option<DrawFault>
 }
 
 /// An edge that lacks an end.
-pub(crate) fn no_end(edges: &[Edge]) -> Option<DrawFault>
+fn no_end(edges: &[Edge]) -> Option<DrawFault>
     requires { length edges.now ≤ most_pairs }
     ensures { result ≡ option_map (λ e. DrawFault.NoEnd e) (position faults.lacks_end edges.now) }
 {
@@ -119,7 +120,7 @@ pub(crate) fn no_end(edges: &[Edge]) -> Option<DrawFault>
 }
 
 /// An edge with an end that is no node's id.
-pub(crate) fn unknown_end(ids: &IndexMap<i64, u32>, edges: &[Edge]) -> Option<DrawFault>
+fn unknown_end(ids: &IndexMap<i64, u32>, edges: &[Edge]) -> Option<DrawFault>
     requires { length edges.now ≤ most_pairs }
     ensures { result
         ≡ option_map (λ e. DrawFault.UnknownEnd e) (position (faults.has_unknown_end (get int_eq ids.now)) edges.now) }
@@ -136,7 +137,7 @@ fn bad_point_of(points: &[Option<Numbers>]) -> Option<usize>
 }
 
 /// A point that lacks a number, by edge and then by point.
-pub(crate) fn bad_point(edges: &[Edge]) -> Option<DrawFault>
+fn bad_point(edges: &[Edge]) -> Option<DrawFault>
     requires edges { length edges.now ≤ most_pairs }
     requires points { All (λ edge. length edge.points ≤ most_pairs) edges.now }
     ensures { result ≡ faults.bad_point_from 0 edges.now }
@@ -150,4 +151,35 @@ pub(crate) fn bad_point(edges: &[Edge]) -> Option<DrawFault>
         }
     }
     None
+}
+
+/// The refused number with the least offset.
+fn bad_number(graph: &Graph) -> Option<DrawFault>
+    ensures { result
+        ≡ option_map (λ number. DrawFault.BadNumber number.at number.cause) (faults.first_refused (faults.numbers_of graph.now)) }
+{
+    let number = first_refused(graph)?;
+    Some(DrawFault::BadNumber {
+        at: number.at,
+        cause: number.cause,
+    })
+}
+
+/// A node without a place, or a refused number.
+pub(crate) fn place_fault(graph: &Graph) -> Option<DrawFault>
+    requires { length graph.now.nodes ≤ most_pairs }
+    ensures { result ≡ faults.place_fault graph.now }
+{
+    no_place(graph.nodes.as_slice()).or_else(|| bad_number(graph))
+}
+
+/// An edge that lacks an end or has an unknown one, or a bad point.
+pub(crate) fn edge_fault(ids: &IndexMap<i64, u32>, edges: &[Edge]) -> Option<DrawFault>
+    requires edges { length edges.now ≤ most_pairs }
+    requires points { All (λ edge. length edge.points ≤ most_pairs) edges.now }
+    ensures { result ≡ faults.edge_fault (get int_eq ids.now) edges.now }
+{
+    no_end(edges)
+        .or_else(|| unknown_end(ids, edges))
+        .or_else(|| bad_point(edges))
 }

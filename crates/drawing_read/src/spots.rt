@@ -35,7 +35,14 @@ fn spot(alloc: Global, path: &[u32], vertex: u32, axis: Axis, at: usize) -> Resu
 }
 
 /// Adds the spots of an x and a y in the order of their places.
-fn push_in_order(alloc: Global, spots: &mut Items<Spot>, path: &[u32], vertex: u32, x: usize, y: usize) -> Result<(), NoMemory>
+fn push_in_order(
+    alloc: Global,
+    spots: &mut Items<Spot>,
+    path: &[u32],
+    vertex: u32,
+    x: usize,
+    y: usize,
+) -> Result<(), NoMemory>
     requires x { x ≤ most_pairs }
     requires y { y ≤ most_pairs }
     ensures { OnOk result (spots.new ≡ spots.old ++ layout.in_order path.now vertex (Some x) (Some y)) }
@@ -52,7 +59,13 @@ fn push_in_order(alloc: Global, spots: &mut Items<Spot>, path: &[u32], vertex: u
 }
 
 /// Adds the spots of the x and the y of a list.
-fn push_coordinates(alloc: Global, spots: &mut Items<Spot>, path: &[u32], vertex: u32, pairs: &[Pair]) -> Result<(), NoMemory>
+fn push_coordinates(
+    alloc: Global,
+    spots: &mut Items<Spot>,
+    path: &[u32],
+    vertex: u32,
+    pairs: &[Pair],
+) -> Result<(), NoMemory>
     requires { AreReadable pairs.now }
     ensures { OnOk result (spots.new ≡ spots.old ++ layout.coordinate_spots path.now vertex pairs.now) }
 {
@@ -66,7 +79,13 @@ fn push_coordinates(alloc: Global, spots: &mut Items<Spot>, path: &[u32], vertex
 }
 
 /// Adds the spots of a node.
-fn push_node(alloc: Global, spots: &mut Items<Spot>, path: &[u32], vertex: u32, pairs: &[Pair]) -> Result<(), NoMemory>
+fn push_node(
+    alloc: Global,
+    spots: &mut Items<Spot>,
+    path: &[u32],
+    vertex: u32,
+    pairs: &[Pair],
+) -> Result<(), NoMemory>
     requires { AreReadable pairs.now }
     ensures { OnOk result (spots.new ≡ spots.old ++ layout.node_spots path.now vertex pairs.now) }
 {
@@ -95,7 +114,14 @@ fn point_vertex(span: Span, p: u32) -> u32
 }
 
 /// Adds the spots of a point of a line.
-fn push_point(alloc: Global, spots: &mut Items<Spot>, line: &[u32], vertex: u32, at: usize, pair: &Pair) -> Result<(), NoMemory>
+fn push_point(
+    alloc: Global,
+    spots: &mut Items<Spot>,
+    line: &[u32],
+    vertex: u32,
+    at: usize,
+    pair: &Pair,
+) -> Result<(), NoMemory>
     requires place { at ≤ most_pairs }
     requires pair { IsReadablePair pair.now }
     ensures { OnOk result (spots.new ≡ spots.old
@@ -109,7 +135,13 @@ fn push_point(alloc: Global, spots: &mut Items<Spot>, line: &[u32], vertex: u32,
 }
 
 /// Adds the spots of the points of a line.
-fn push_points(alloc: Global, spots: &mut Items<Spot>, line: &[u32], span: Span, points: &[Pair]) -> Result<(), NoMemory>
+fn push_points(
+    alloc: Global,
+    spots: &mut Items<Spot>,
+    line: &[u32],
+    span: Span,
+    points: &[Pair],
+) -> Result<(), NoMemory>
     requires span { span.first + span.bends < 2 ^ 32 }
     requires points { AreReadable points.now }
     ensures { OnOk result (spots.new ≡ spots.old ++ layout.point_spots line.now span 0 0 points.now) }
@@ -125,7 +157,13 @@ fn push_points(alloc: Global, spots: &mut Items<Spot>, line: &[u32], span: Span,
 }
 
 /// Adds the spots of an edge whose graphics are these pairs.
-fn push_line(alloc: Global, spots: &mut Items<Spot>, path: &[u32], span: Span, graphics: &[Pair]) -> Result<(), NoMemory>
+fn push_line(
+    alloc: Global,
+    spots: &mut Items<Spot>,
+    path: &[u32],
+    span: Span,
+    graphics: &[Pair],
+) -> Result<(), NoMemory>
     requires span { span.first + span.bends < 2 ^ 32 }
     requires graphics { AreReadable graphics.now }
     ensures { OnOk result (spots.new ≡ spots.old
@@ -142,7 +180,13 @@ fn push_line(alloc: Global, spots: &mut Items<Spot>, path: &[u32], span: Span, g
 }
 
 /// Adds the spots of an edge.
-fn push_edge(alloc: Global, spots: &mut Items<Spot>, path: &[u32], span: Span, pairs: &[Pair]) -> Result<(), NoMemory>
+fn push_edge(
+    alloc: Global,
+    spots: &mut Items<Spot>,
+    path: &[u32],
+    span: Span,
+    pairs: &[Pair],
+) -> Result<(), NoMemory>
     requires span { span.first + span.bends < 2 ^ 32 }
     requires pairs { AreReadable pairs.now }
     ensures { OnOk result (spots.new ≡ spots.old ++ layout.edge_spots path.now span pairs.now) }
@@ -158,7 +202,14 @@ fn push_edge(alloc: Global, spots: &mut Items<Spot>, path: &[u32], span: Span, p
 }
 
 /// Adds the spots of a pair that is node n.
-fn push_if_node(alloc: Global, spots: &mut Items<Spot>, path: &[u32], n: u32, at: usize, pair: &Pair) -> Result<(), NoMemory>
+fn push_if_node(
+    alloc: Global,
+    spots: &mut Items<Spot>,
+    path: &[u32],
+    n: u32,
+    at: usize,
+    pair: &Pair,
+) -> Result<(), NoMemory>
     requires place { at ≤ most_pairs }
     requires pair { IsReadablePair pair.now }
     ensures { OnOk result (spots.new ≡ spots.old
@@ -172,7 +223,14 @@ fn push_if_node(alloc: Global, spots: &mut Items<Spot>, path: &[u32], n: u32, at
 }
 
 /// Adds the spots of a pair that is the edge with this span.
-fn push_if_edge(alloc: Global, spots: &mut Items<Spot>, path: &[u32], span: Span, at: usize, pair: &Pair) -> Result<(), NoMemory>
+fn push_if_edge(
+    alloc: Global,
+    spots: &mut Items<Spot>,
+    path: &[u32],
+    span: Span,
+    at: usize,
+    pair: &Pair,
+) -> Result<(), NoMemory>
     requires place { at ≤ most_pairs }
     requires span { span.first + span.bends < 2 ^ 32 }
     requires pair { IsReadablePair pair.now }
@@ -215,7 +273,12 @@ fn counted(n: u32, key: &[u8], pair: &Pair) -> u32
 }
 
 /// The spots of a graph, in document order.
-pub(crate) fn graph_spots(alloc: Global, path: &[u32], spans: &[Span], pairs: &[Pair]) -> Result<Items<Spot>, NoMemory>
+pub(crate) fn graph_spots(
+    alloc: Global,
+    path: &[u32],
+    spans: &[Span],
+    pairs: &[Pair],
+) -> Result<Items<Spot>, NoMemory>
     requires spans { All (λ span. span.first + span.bends < 2 ^ 32) spans.now }
     requires pairs { AreReadable pairs.now }
     ensures { IfOk result (λ spots. spots ≡ layout.graph_spots path.now spans.now 0 0 0 pairs.now) }

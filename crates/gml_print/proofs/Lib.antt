@@ -1,4 +1,6 @@
+pub mod Alike
 pub mod Printed
+pub mod ReadsBack
 pub mod Numerals
 pub mod PlaceNumbers
 pub mod ListFacts

@@ -1,3 +1,4 @@
+pub mod Laws
 pub mod Printing
 pub mod Numbers
 pub mod Placing

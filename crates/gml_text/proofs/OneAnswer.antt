@@ -1,5 +1,5 @@
 -- Every text has one answer.
-use Rattle.std.proofs.Common.{◌≡◌, ℕ, ◌⊎◌, inl, inr, true, List, Result, Ok, Err, IfOk, subst}
+use Rattle.std.proofs.Common.{◌≡◌, ℕ, ◌≤◌, ◌⊎◌, inl, inr, true, List, length, Result, Ok, Err, IfOk, subst}
 use Rattle.compact_types.specs.Refusals.{Gives, IfFault}
 use Rattle.compact_types.specs.declared.refusal.Refusal.{Refusal}
 use Rattle.compact_types.specs.declared.refusal.Refusal.TheVariants.{Fault, NoMemory}
@@ -8,11 +8,13 @@ use Rattle.gml_text.specs.declared.tree.Tree.{Tree}
 use Rattle.gml_text.specs.Faults.{FirstFault, HasOneAnswer}
 use Rattle.gml_text.specs.Texts.{Spells}
 use Rattle.gml_text.specs.Trees.{is_within_grammar}
+use Rattle.gml_text.specs.Grammar.{IsReadable}
 use Rattle.gml_text.specs.Reading.{answer_of}
 use Rattle.gml_text.proofs.Complete.{answer_of-spelled}
 use Rattle.gml_text.proofs.FirstFaults.{answer_of-fault}
 use Rattle.gml_text.proofs.Sound.{Answers, answer_of-right}
 use Rattle.gml_text.proofs.Within.{is_within_grammar-spelled}
+use Rattle.gml_text.proofs.Readable.{readable-spelled}
 
 answered : (text : List ℕ) (answer : Result Tree GmlFault) → Answers text answer → ((tree : Tree) × Spells text tree) ⊎ ((fault : GmlFault) × FirstFault text fault)
 answered text (Ok tree) h = inl (tree, h)
@@ -45,3 +47,7 @@ given-first text result e fault h = subst (Gives result) (answer_of-fault h) e
 pub given-within : (text : List ℕ) (result : Result Tree (Refusal GmlFault)) → Gives result (answer_of text) → IfOk result (λ tree. is_within_grammar tree ≡ true)
 given-within text (Ok tree) e = is_within_grammar-spelled text tree (subst (Answers text) e (answer_of-right text))
 given-within text (Err refusal) e = tt
+
+pub given-readable : (text : List ℕ) (result : Result Tree (Refusal GmlFault)) → length text ≤ 67108864 → Gives result (answer_of text) → IfOk result (λ tree. IsReadable tree)
+given-readable text (Ok tree) short e = readable-spelled text tree short (subst (Answers text) e (answer_of-right text))
+given-readable text (Err refusal) short e = tt

@@ -1,10 +1,10 @@
+pub mod Alike
 pub mod Bytes
 pub mod Faults
 pub mod Grammar
 pub mod NumeralKinds
 pub mod Numerals
-pub mod Scaling
-pub mod Plains
 pub mod Reading
+pub mod Scaling
 pub mod Texts
 pub mod Trees

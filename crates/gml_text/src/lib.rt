@@ -7,7 +7,6 @@
 mod bytes;
 pub mod fault;
 pub mod number;
-pub mod plain;
 pub mod read;
 mod reader;
 pub mod tree;

@@ -3,6 +3,7 @@ ghost use Rattle.compact_types.specs.Refusals.{Gives, IfFault};
 ghost use Rattle.gml_text.specs.declared.fault.GmlFault.{GmlFault};
 ghost use Rattle.gml_text.specs.declared.tree.Tree.{Tree};
 ghost use Rattle.gml_text.specs.Faults.{FirstFault, HasOneAnswer};
+ghost use Rattle.gml_text.specs.Grammar.{IsReadable};
 ghost use Rattle.gml_text.specs.Texts.{Spells};
 ghost use Rattle.gml_text.specs.Trees.{is_within_grammar};
 
@@ -25,6 +26,7 @@ pub fn read_tree(alloc: Global, bytes: &[u8]) -> Result<Tree, Refusal<GmlFault>>
 
     // What callers may rely on in every tree that is read.
     ensures within { IfOk result (λ tree. is_within_grammar tree ≡ true) }
+    ensures readable { IfOk result (λ tree. IsReadable tree) }
 {
     read(alloc, bytes)
 }

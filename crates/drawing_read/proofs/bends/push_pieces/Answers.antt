@@ -1,6 +1,5 @@
-use Rattle.std.proofs.Common.{◌+◌, ◌++◌, arith, sym, ◌∙◌, ap}
-use Rattle.drawing_read.specs.Routes.{chain, span_pieces}
-use Rattle.std.specs.List.{range_with_len}
+use Rattle.std.proofs.Common.{◌+◌, ◌++◌, arith}
+use Rattle.drawing_read.specs.Routes.{span_pieces}
 use Rattle.drawing_read.proofs.Steps.{chain_more}
 use Rattle.drawing_read.proofs.bends.push_pieces.Goals as goal
 

@@ -1,4 +1,4 @@
-use Rattle.std.proofs.Common.{◌≡◌, ℤ, ℕ, None, take, length}
+use Rattle.std.proofs.Common.{◌≡◌, ℤ, None, take}
 use Rattle.std.specs.List.{find, range_with_len}
 use Rattle.std.specs.Ordering.{int_eq}
 use Rattle.indexmap.specs.IndexMap.{get}

@@ -1,4 +1,4 @@
-use Rattle.std.proofs.Common.{◌≡◌, true, ap, ◌∙◌}
+use Rattle.std.proofs.Common.{ap, ◌∙◌}
 use Rattle.gml_text.specs.NumeralKinds.{is_numeral}
 use Rattle.drawing_read.proofs.SizeLemmas.{numeral_word}
 use Rattle.drawing_read.proofs.nodes.number_of.Goals as goal

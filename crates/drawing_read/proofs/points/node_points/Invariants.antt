@@ -1,7 +1,5 @@
 use Rattle.std.proofs.Common.{◌≡◌, take, map}
-use Rattle.std.specs.Ordering.{int_eq}
-use Rattle.indexmap.specs.IndexMap.{get}
-use Rattle.drawing_read.specs.Routes.{point_of, route_of}
+use Rattle.drawing_read.specs.Routes.{point_of}
 use Rattle.drawing_read.proofs.points.node_points.Given as goal
 
 abbrev pub invariant-loop-node : goal.invariant-loop-node
