@@ -3,3 +3,16 @@ pub mod Printed
 pub mod ReadsBack
 pub mod Numerals
 pub mod PlaceNumbers
+pub mod ListFacts
+pub mod MovedGraphs
+pub mod MovedEdges
+pub mod MovedFaults
+pub mod MovedReadings
+pub mod Changes
+pub mod Puts
+pub mod SpotPaths
+pub mod PlacedLists
+pub mod PlacedNodes
+pub mod PlacedEdges
+pub mod PlacedGraphs
+pub mod PlacedReadings

@@ -13,10 +13,10 @@ use Rattle.gml_text.specs.Numerals.{is_sign, are_digits, is_whole_numeral, digit
 use Rattle.gml_print.specs.Numbers.{number_text}
 
 -- the list is the digits of a number
-record AreDigitsOf (n : ℕ) (list : List ℕ) : Type 0 where
-  digits : list_all is_digit list ≡ true
-  value : digits_value list ≡ n
-  some : 0 < length list
+pub record AreDigitsOf (n : ℕ) (list : List ℕ) : Type 0 where
+  pub digits : list_all is_digit list ≡ true
+  pub value : digits_value list ≡ n
+  pub some : 0 < length list
 
 digit_byte : (d : ℕ) → d < 10 → is_digit (48 + d) ≡ true
 digit_byte d h = grind (arith, nat_tests)
@@ -39,7 +39,7 @@ one_more_digit n digits h front = record {
   some = omega (arith, length-append {A = ℕ});
 }
 
-decimal_digits : (n : ℕ) → n < 2 ^ 64 → AreDigitsOf n (decimal n)
+pub decimal_digits : (n : ℕ) → n < 2 ^ 64 → AreDigitsOf n (decimal n)
 decimal_digits = decimal_by_steps AreDigitsOf one_digit one_more_digit
 
 -- a digit is no sign

@@ -1,5 +1,6 @@
 -- The tree of a drawing with new places of its vertices.
-use Rattle.std.specs.Prelude.{◌≡◌, ℕ, ◌<◌, ◌≤◌, ℤ, pos, ◌*ℤ◌, ◌≤ℤ◌, List, [], ◌∷◌, length}
+use Rattle.std.specs.Prelude.{◌≡◌, ℕ, ◌<◌, ◌≤◌, ◌*◌, ℤ, pos, ◌*ℤ◌, ◌≤ℤ◌, List, [], ◌∷◌, length, map}
+use Rattle.compact_types.specs.declared.places.Point.{Point}
 use Rattle.compact_types.specs.declared.places.Places.{Places}
 use Rattle.compact_types.specs.declared.places.Axis.{Axis}
 use Rattle.compact_types.specs.Lookups.{place, along}
@@ -37,3 +38,15 @@ pub record CanPut (tree : Tree) (reading : Reading) (places : Places) (pitch : �
   pub within : AreWithin places
   pub some_pitch : 1 ≤ pitch
   pub most_pitch : pitch ≤ 10000
+
+-- a place in thousandths, with so many units between neighbours
+abbrev pub in_thousandths : ℕ → Point → Point
+in_thousandths pitch point = record { x = pos (1000 * pitch) *ℤ point.x; y = pos (1000 * pitch) *ℤ point.y }
+
+-- the reading with these places of its vertices: the same plan and the same spots
+abbrev pub moved_reading : Reading → Places → ℕ → Reading
+moved_reading reading places pitch = record {
+  plan = reading.plan;
+  places = record { xy = map (in_thousandths pitch) places.xy };
+  spots = reading.spots;
+}

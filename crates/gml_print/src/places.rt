@@ -1,6 +1,12 @@
 //! The tree of a drawing with new places of its vertices.
 
-ghost use Rattle.std.specs.Prelude.{◌≡◌, ◌≤◌, pos, ◌*ℤ◌, ◌≤ℤ◌, IfOk};
+ghost use Rattle.std.specs.Prelude.{◌≡◌, ℕ, ◌≤◌, pos, ◌*ℤ◌, ◌≤ℤ◌, IfOk};
+ghost use Rattle.compact_types.specs.declared.places.Places.{Places};
+ghost use Rattle.compact_types.specs.declared.plan.Shape.{Shape};
+ghost use Rattle.compact_types.specs.Drawings.{IsDrawing};
+ghost use Rattle.gml_text.specs.declared.tree.Tree.{Tree};
+ghost use Rattle.drawing_read.specs.declared.reading.Reading.{Reading};
+ghost use Rattle.drawing_read.specs.Readings.{IsReading};
 ghost use Rattle.gml_print.specs.Places as placing;
 
 use crate::copy::copy_tree;
@@ -34,6 +40,14 @@ pub fn put_places(
     }
     Ok(new)
 }
+
+/// The law of `put_places`: where the places are a drawing of the shape of the reading, the new tree has the same plan
+/// and the same spots, and its places are `pitch` times the given ones, in thousandths.
+pub fn placed_tree_is_read()
+    ensures { (tree : Tree) (reading : Reading) (places : Places) (pitch : ℕ) (shape : Shape) →
+        placing.CanPut tree reading places pitch → shape.plan ≡ reading.plan → IsDrawing shape places →
+        IsReading (placing.placed tree reading.spots places pitch) (placing.moved_reading reading places pitch) }
+{}
 
 /// The coordinate of a spot.
 fn coordinate_at(places: &Places, spot: &Spot) -> i64

@@ -367,11 +367,10 @@ fn reads_up_to_a_thousand_vertices(rt: HostRuntime) -> Result<(), Fail> {
 fn refuses_a_text_past_the_limit(rt: HostRuntime) -> Result<(), Fail> {
     let alloc = rt.alloc();
     let long = Status::Refused(Why::TooLong);
-    for (hashes, status) in [(4_194_304, Status::Done), (4_194_305, long)] {
+    for (length, status) in [(4_194_304usize, Status::Done), (4_194_305, long)] {
         let mut text = Vec::from_slice(alloc, TWO_NODES)?;
-        while text.len() < hashes {
-            text.push(b'#')?;
-        }
+        let hashes = vec![in alloc; b'#'; length.saturating_sub(TWO_NODES.len())]?;
+        text.extend_from_slice(hashes.as_slice())?;
         let mut out = MemorySink::new(alloc, 1000, 1000, Vec::new(alloc))
             .ok()
             .ok_or("room")?;

@@ -1,0 +1,84 @@
+-- Positions, filters and ranges.
+use Rattle.std.proofs.Common.{◌≡◌, ℕ, zero, suc, ◌+◌, ◌-◌, ◌<◌, ◌≤◌, ◌⊎◌, inl, inr, arith, Bool, true, false, not, cond, List, [], ◌∷◌, ◌++◌, length, map, Option, None, Some, refl, sym, ap, ◌∙◌, nat_lt, append-nil, append_assoc, add_assoc, add-zero, zero-add, slice_index_or}
+use Rattle.std.specs.Prelude.{is_none}
+use Rattle.std.specs.List.{position, find, prefix_len, range_with_len, filter_map, cons_option}
+use Rattle.std.specs.Option.{option_or}
+use Rattle.std.proofs.lemmas.Bool.Decides.{nat_tests}
+use Rattle.std.proofs.lemmas.List.{length-map}
+
+prefix_len-map : {X Y : Type 0} (p : Y → Bool) (f : X → Y) (xs : List X) → prefix_len p (map f xs) ≡ prefix_len (λ x. p (f x)) xs
+prefix_len-map p f [] = refl
+prefix_len-map p f (x ∷ xs) = ap (λ (n : ℕ). cond (p (f x)) (1 + n) 0) (prefix_len-map p f xs)
+
+-- the place of the first that passes is told by what is tested alone
+pub position-map : {X Y : Type 0} (p : Y → Bool) (f : X → Y) (xs : List X) → position p (map f xs) ≡ position (λ x. p (f x)) xs
+position-map p f xs = rw (prefix_len-map (λ y. not (p y)) f xs, length-map xs f) refl
+
+none_apart : (b : Bool) (k n : ℕ) → cond (nat_lt (cond (not b) (1 + k) 0) (suc n)) (Some (cond (not b) (1 + k) 0)) None ≡ None →
+    (b ≡ false) × (cond (nat_lt k n) (Some k) None ≡ None)
+none_apart true k n is = grind (arith, nat_tests)
+none_apart false k n is = (refl, grind (arith, nat_tests))
+
+pub position_none_tail : {X : Type 0} (p : X → Bool) (x : X) (xs : List X) → position p (x ∷ xs) ≡ None → (p x ≡ false) × (position p xs ≡ None)
+position_none_tail p x xs is = none_apart (p x) (prefix_len (λ y. not (p y)) xs) (length xs) is
+
+none_together : (b : Bool) (k n : ℕ) → b ≡ false → cond (nat_lt k n) (Some k) None ≡ None →
+    cond (nat_lt (cond (not b) (1 + k) 0) (suc n)) (Some (cond (not b) (1 + k) 0)) None ≡ None
+none_together true k n fails is = grind (arith, nat_tests)
+none_together false k n fails is = grind (arith, nat_tests)
+
+pub position_none_cons : {X : Type 0} (p : X → Bool) (x : X) (xs : List X) → p x ≡ false → position p xs ≡ None → position p (x ∷ xs) ≡ None
+position_none_cons p x xs fails is = none_together (p x) (prefix_len (λ y. not (p y)) xs) (length xs) fails is
+
+-- of two that might be there, neither is
+pub neither : {X : Type 0} (a b : Option X) → option_or a b ≡ None → (a ≡ None) × (b ≡ None)
+neither None b is = (refl, is)
+neither (Some x) b is = (is, cc)
+
+pub both_none : {X : Type 0} (a b : Option X) → a ≡ None → b ≡ None → option_or a b ≡ None
+both_none a b first second = rw (first, second) refl
+
+pub length_range : (a n : ℕ) → length (range_with_len a n) ≡ n
+length_range a zero = refl
+length_range a (suc n) = ap suc (length_range (a + 1) n)
+
+pub range_append : (a m n : ℕ) → range_with_len a (m + n) ≡ range_with_len a m ++ range_with_len (a + m) n
+range_append a zero n = rw (zero-add n, add-zero a) refl
+range_append a (suc m) n =
+    let e : suc m + n ≡ suc (m + n) = omega arith in
+    let f : (a + 1) + m ≡ a + suc m = omega arith in
+    rw (e, range_append (a + 1) m n, f) refl
+
+found_cons : (b : Bool) (k n a : ℕ) → b ≡ false → cond (nat_lt k n) (Some k) None ≡ Some a →
+    cond (nat_lt (cond (not b) (1 + k) 0) (suc n)) (Some (cond (not b) (1 + k) 0)) None ≡ Some (suc k)
+found_cons true k n a fails is = cc
+found_cons false k n a fails is = grind (arith, nat_tests)
+
+found_here : (b : Bool) (k n : ℕ) → b ≡ true → cond (nat_lt (cond (not b) (1 + k) 0) (suc n)) (Some (cond (not b) (1 + k) 0)) None ≡ Some 0
+found_here true k n passes = grind (arith, nat_tests)
+found_here false k n passes = cc
+
+-- the first that passes is found exactly where it has a place
+pub find_position : {X : Type 0} (p : X → Bool) (xs : List X) →
+    ((position p xs ≡ None) × (find p xs ≡ None)) ⊎ ((a : ℕ) × (x : X) × ((position p xs ≡ Some a) × (find p xs ≡ Some x)))
+find_position p [] = inl (refl, refl)
+find_position {X} p (x ∷ xs) = by_test (p x) refl (find_position p xs)
+  where
+    by_test : (b : Bool) → p x ≡ b →
+        ((position p xs ≡ None) × (find p xs ≡ None)) ⊎ ((a : ℕ) × (y : X) × ((position p xs ≡ Some a) × (find p xs ≡ Some y))) →
+        ((position p (x ∷ xs) ≡ None) × (find p (x ∷ xs) ≡ None)) ⊎ ((a : ℕ) × (y : X) × ((position p (x ∷ xs) ≡ Some a) × (find p (x ∷ xs) ≡ Some y)))
+    by_test true is rest = inr (0, x, (found_here (p x) (prefix_len (λ y. not (p y)) xs) (length xs) is, rw is refl))
+    by_test false is (inl h) = inl (position_none_cons p x xs is h.0, rw is (h.1))
+    by_test false is (inr h) =
+        inr (suc (prefix_len (λ y. not (p y)) xs), h.1, (found_cons (p x) (prefix_len (λ y. not (p y)) xs) (length xs) h.0 is h.2.0, rw is (h.2.1)))
+
+pub position_here : {X : Type 0} (p : X → Bool) (x : X) (xs : List X) → p x ≡ true → position p (x ∷ xs) ≡ Some 0
+position_here p x xs passes = found_here (p x) (prefix_len (λ y. not (p y)) xs) (length xs) passes
+
+found_later : (b : Bool) (k n a : ℕ) → b ≡ false → cond (nat_lt k n) (Some k) None ≡ Some a →
+    cond (nat_lt (cond (not b) (1 + k) 0) (suc n)) (Some (cond (not b) (1 + k) 0)) None ≡ Some (suc a)
+found_later true k n a fails is = cc
+found_later false k n a fails is = grind (arith, nat_tests)
+
+pub position_later : {X : Type 0} (p : X → Bool) (x : X) (xs : List X) (a : ℕ) → p x ≡ false → position p xs ≡ Some a → position p (x ∷ xs) ≡ Some (suc a)
+position_later p x xs a fails is = found_later (p x) (prefix_len (λ y. not (p y)) xs) (length xs) a fails is
