@@ -19,7 +19,7 @@ use Rattle.drawing_read.specs.declared.fault.DrawFault.TheVariants.{Empty, NoId,
 use Rattle.drawing_read.specs.declared.route.Span.{Span}
 use Rattle.drawing_read.specs.Routes.{ids_of, number_of_id, node_with, fitting}
 use Rattle.drawing_read.specs.Spots.{point_vertex}
-use Rattle.drawing_read.specs.DrawFaults.{is_absent, is_unfit, is_no_numeral, node_fault, edge_fault, lacks_end, has_unknown_end, bad_point_from, both_numbers, refused_in}
+use Rattle.drawing_read.specs.DrawFaults.{is_absent, is_unfit, is_no_numeral, id_fault, edge_fault, lacks_end, has_unknown_end, bad_point_from, both_numbers, refused_in}
 use Rattle.gml_print.proofs.ListFacts.{position-map, position_none_tail, position_none_cons, neither, both_none}
 use Rattle.gml_print.proofs.MovedGraphs.{HavePlaces, HavePoints, EdgesHavePoints, moved_numbers, moved_node, moved_nodes, moved_points, moved_edge, moved_edges}
 
@@ -62,12 +62,12 @@ known_end ids end some = by_number (fitting end)
     by_number (Some id) = found_within (number_of_id ids id) (length ids) (λ i is. (position-Some (int_eq id) ids i (pos 0) is).0) some
 
 -- the faults of nodes by their number and by the first without an id and with an unfit one
-node_fault_by : ℕ → Option ℕ → Option ℕ → Option DrawFault
-node_fault_by n absent unfit =
+id_fault_by : ℕ → Option ℕ → Option ℕ → Option DrawFault
+id_fault_by n absent unfit =
     option_or (if nat_lt 0 n then None else Some Empty) (option_or (option_map (λ n. NoId n) absent) (option_map (λ n. BadId n) unfit))
 
-same_node_faults : (n m : ℕ) (a b c d : Option ℕ) → n ≡ m → a ≡ b → c ≡ d → node_fault_by n a c ≡ node_fault_by m b d
-same_node_faults n m a b c d first second third = cc
+same_id_faults : (n m : ℕ) (a b c d : Option ℕ) → n ≡ m → a ≡ b → c ≡ d → id_fault_by n a c ≡ id_fault_by m b d
+same_id_faults n m a b c d first second third = cc
 
 -- the faults of edges by the first without an end, the first with an unknown one, and the first bad point
 edge_fault_by : Option ℕ → Option ℕ → Option DrawFault → Option DrawFault
@@ -95,10 +95,10 @@ module _ (where_is : ℕ → Point) where
       sym (position-map p (λ (node : Node). node.id) (moved_nodes where_is n nodes))
       ∙ ap (position p) (written_ids n nodes) ∙ position-map p (λ (node : Node). node.id) nodes
 
-  pub node_fault_moved : (n : ℕ) (nodes : List Node) → node_fault (moved_nodes where_is n nodes) ≡ node_fault nodes
-  unfolding node_fault_by
-  node_fault_moved n nodes =
-      same_node_faults (length (moved_nodes where_is n nodes)) (length nodes) (position (λ (node : Node). is_absent node.id) (moved_nodes where_is n nodes)) (position (λ (node : Node). is_absent node.id) nodes)
+  pub id_fault_moved : (n : ℕ) (nodes : List Node) → id_fault (moved_nodes where_is n nodes) ≡ id_fault nodes
+  unfolding id_fault_by
+  id_fault_moved n nodes =
+      same_id_faults (length (moved_nodes where_is n nodes)) (length nodes) (position (λ (node : Node). is_absent node.id) (moved_nodes where_is n nodes)) (position (λ (node : Node). is_absent node.id) nodes)
       (position (λ (node : Node). is_unfit node.id) (moved_nodes where_is n nodes)) (position (λ (node : Node). is_unfit node.id) nodes)
       (length_moved n nodes) (ids_position is_absent n nodes) (ids_position is_unfit n nodes)
 

@@ -19,11 +19,11 @@ use Rattle.drawing_read.specs.declared.fault.DrawFault.TheVariants.{Empty, NoId,
 use Rattle.drawing_read.specs.declared.route.Span.{Span}
 use Rattle.drawing_read.specs.Routes.{ids_of, number_of_id, node_with, node_points, point_of, route_of, routes_by, bends_of, spans_from, points_by, spans_by, pieces_of, points_in, spans_in, pieces_in}
 use Rattle.drawing_read.specs.Spots.{no_span}
-use Rattle.drawing_read.specs.DrawFaults.{is_absent, is_unfit, node_fault, place_fault, edge_fault, size_fault, graph_fault, first_repeated, numbers_of, first_refused, refused_in, lacks_end, has_unknown_end, bad_point_from}
+use Rattle.drawing_read.specs.DrawFaults.{is_absent, is_unfit, id_fault, repeated_fault, place_fault, edge_fault, size_fault, graph_fault, first_repeated, numbers_of, first_refused, refused_in, lacks_end, has_unknown_end, bad_point_from}
 use Rattle.gml_print.proofs.ListFacts.{neither, both_none, range_append, length_range}
 use Rattle.gml_print.proofs.MovedGraphs.{HavePlaces, EdgesHavePoints, Apart, moved_nodes, moved_edges, moved_node_points}
 use Rattle.gml_print.proofs.MovedEdges.{KeepTheirVertices, edges_moved}
-use Rattle.gml_print.proofs.MovedFaults.{have_places, edges_have_points, known_end, ids_moved, length_moved, node_fault_moved, places_moved, numbers_fit, edge_fault_moved}
+use Rattle.gml_print.proofs.MovedFaults.{have_places, edges_have_points, known_end, ids_moved, length_moved, id_fault_moved, places_moved, numbers_fit, edge_fault_moved}
 
 none_mapped : {X Y : Type 0} (f : X → Y) (o : Option X) → option_map f o ≡ None → o ≡ None
 none_mapped f None is = refl
@@ -31,29 +31,36 @@ none_mapped f (Some x) is = cc
 
 -- what follows where a graph has no fault
 record IsFaultless (graph : Graph) : Type 0 where
-  nodes : node_fault graph.nodes ≡ None
-  repeated : first_repeated (ids_of graph.nodes) ≡ None
+  nodes : id_fault graph.nodes ≡ None
+  repeated : repeated_fault graph.nodes ≡ None
   places : position (λ node. is_none node.place) graph.nodes ≡ None
   edges : edge_fault (number_of_id (ids_of graph.nodes)) graph.edges ≡ None
   size : size_fault (length (points_in graph)) (length (pieces_in graph)) ≡ None
 
+-- the faults behind those of the nodes' ids, and behind those of the places
+edge_and_size : Graph → Option DrawFault
+edge_and_size graph =
+    option_or (edge_fault (number_of_id (ids_of graph.nodes)) graph.edges) (size_fault (length (points_in graph)) (length (pieces_in graph)))
+
+place_and_more : Graph → Option DrawFault
+unfolding edge_and_size
+place_and_more graph = option_or (place_fault graph) (edge_and_size graph)
+
 faultless_parts : (graph : Graph) → graph_fault graph ≡ None → IsFaultless graph
+unfolding place_and_more edge_and_size
 faultless_parts graph is =
-    let a = neither (node_fault graph.nodes) (option_or (place_fault graph)
-        (option_or (edge_fault (number_of_id (ids_of graph.nodes)) graph.edges) (size_fault (length (points_in graph)) (length (pieces_in graph))))) is in
-    let b = neither (place_fault graph) (option_or (edge_fault (number_of_id (ids_of graph.nodes)) graph.edges) (size_fault (length (points_in graph)) (length (pieces_in graph)))) a.1 in
-    let c = neither (edge_fault (number_of_id (ids_of graph.nodes)) graph.edges) (size_fault (length (points_in graph)) (length (pieces_in graph))) b.1 in
-    let d = neither (option_map (λ n. RepeatedId n) (first_repeated (ids_of graph.nodes)))
-        (option_or (option_map (λ n. NoPlace n) (position (λ node. is_none node.place) graph.nodes))
-            (option_map (λ number. BadNumber number.at number.cause) (first_refused (numbers_of graph)))) b.0 in
+    let a = neither (id_fault graph.nodes) (option_or (repeated_fault graph.nodes) (place_and_more graph)) is in
+    let b = neither (repeated_fault graph.nodes) (place_and_more graph) a.1 in
+    let c = neither (place_fault graph) (edge_and_size graph) b.1 in
+    let d = neither (edge_fault (number_of_id (ids_of graph.nodes)) graph.edges) (size_fault (length (points_in graph)) (length (pieces_in graph))) c.1 in
     let e = neither (option_map (λ n. NoPlace n) (position (λ node. is_none node.place) graph.nodes))
-        (option_map (λ number. BadNumber number.at number.cause) (first_refused (numbers_of graph))) d.1 in
+        (option_map (λ number. BadNumber number.at number.cause) (first_refused (numbers_of graph))) c.0 in
     record {
       nodes = a.0;
-      repeated = none_mapped (λ n. RepeatedId n) (first_repeated (ids_of graph.nodes)) d.0;
+      repeated = b.0;
       places = none_mapped (λ n. NoPlace n) (position (λ node. is_none node.place) graph.nodes) e.0;
-      edges = c.0;
-      size = c.1;
+      edges = d.0;
+      size = d.1;
     }
 
 points_there : (look : ℤ → Option ℕ) (edges : List Edge) → edge_fault look edges ≡ None → EdgesHavePoints edges
@@ -63,7 +70,7 @@ points_there look edges is =
     let bad = neither (option_map (λ e. UnknownEnd e) (position (has_unknown_end look) edges)) (bad_point_from 0 edges) rest.1 in
     edges_have_points 0 edges bad.1
 
-some_node : (nodes : List Node) → node_fault nodes ≡ None → 0 < length nodes
+some_node : (nodes : List Node) → id_fault nodes ≡ None → 0 < length nodes
 some_node [] is = cc
 some_node (node ∷ nodes) is = omega arith
 
@@ -155,32 +162,26 @@ module _ (where_is : ℕ → Point) (graph : Graph) (faultless : graph_fault gra
   same_edge_fault = ap (λ look. edge_fault look (moved_graph where_is graph).edges) same_look
       ∙ edge_fault_moved where_is (λ e. slice_index_or (spans_in graph) e no_span) look graph.edges (faultless_parts graph faultless).edges
 
+  same_repeated : repeated_fault (moved_nodes where_is 0 graph.nodes) ≡ None
+  same_repeated = ap (λ ids. option_map (λ n. RepeatedId n) (first_repeated ids)) (ids_moved where_is 0 graph.nodes) ∙ (faultless_parts graph faultless).repeated
+
   no_place_fault : place_fault (moved_graph where_is graph) ≡ None
   no_place_fault =
-      let parts = faultless_parts graph faultless in
-      both_none (option_map (λ n. RepeatedId n) (first_repeated (ids_of (moved_nodes where_is 0 graph.nodes))))
-          (option_or (option_map (λ n. NoPlace n) (position (λ node. is_none node.place) (moved_nodes where_is 0 graph.nodes)))
-              (option_map (λ number. BadNumber number.at number.cause) (first_refused (numbers_of (moved_graph where_is graph)))))
-          (ap (λ ids. option_map (λ n. RepeatedId n) (first_repeated ids)) (ids_moved where_is 0 graph.nodes) ∙ ap (option_map (λ n. RepeatedId n)) parts.repeated)
-          (both_none (option_map (λ n. NoPlace n) (position (λ node. is_none node.place) (moved_nodes where_is 0 graph.nodes)))
-              (option_map (λ number. BadNumber number.at number.cause) (first_refused (numbers_of (moved_graph where_is graph))))
-              (ap (option_map (λ n. NoPlace n)) (places_moved where_is 0 graph.nodes (have_places graph.nodes parts.places)))
-              (ap (option_map (λ number. BadNumber number.at number.cause))
-                  (no_numbers (numbers_of (moved_graph where_is graph))
-                      (numbers_fit where_is (λ e. slice_index_or (spans_in graph) e no_span) 0 0 graph.nodes graph.edges))))
+      both_none (option_map (λ n. NoPlace n) (position (λ node. is_none node.place) (moved_nodes where_is 0 graph.nodes)))
+          (option_map (λ number. BadNumber number.at number.cause) (first_refused (numbers_of (moved_graph where_is graph))))
+          (ap (option_map (λ n. NoPlace n)) (places_moved where_is 0 graph.nodes (have_places graph.nodes (faultless_parts graph faultless).places)))
+          (ap (option_map (λ number. BadNumber number.at number.cause))
+              (no_numbers (numbers_of (moved_graph where_is graph))
+                  (numbers_fit where_is (λ e. slice_index_or (spans_in graph) e no_span) 0 0 graph.nodes graph.edges)))
 
   -- the moved graph has no fault
   pub faultless_moved : graph_fault (moved_graph where_is graph) ≡ None
+  unfolding place_and_more edge_and_size
   faultless_moved =
-      both_none (node_fault (moved_nodes where_is 0 graph.nodes))
-          (option_or (place_fault (moved_graph where_is graph))
-              (option_or (edge_fault (number_of_id (ids_of (moved_nodes where_is 0 graph.nodes))) (moved_graph where_is graph).edges)
-                  (size_fault (length (points_in (moved_graph where_is graph))) (length (pieces_in (moved_graph where_is graph))))))
-          (node_fault_moved where_is 0 graph.nodes ∙ (faultless_parts graph faultless).nodes)
-          (both_none (place_fault (moved_graph where_is graph))
-              (option_or (edge_fault (number_of_id (ids_of (moved_nodes where_is 0 graph.nodes))) (moved_graph where_is graph).edges)
-                  (size_fault (length (points_in (moved_graph where_is graph))) (length (pieces_in (moved_graph where_is graph)))))
-              no_place_fault
-              (both_none (edge_fault (number_of_id (ids_of (moved_nodes where_is 0 graph.nodes))) (moved_graph where_is graph).edges)
-                  (size_fault (length (points_in (moved_graph where_is graph))) (length (pieces_in (moved_graph where_is graph))))
-                  same_edge_fault same_sizes))
+      let moved = moved_graph where_is graph in
+      both_none (id_fault moved.nodes) (option_or (repeated_fault moved.nodes) (place_and_more moved))
+          (id_fault_moved where_is 0 graph.nodes ∙ (faultless_parts graph faultless).nodes)
+          (both_none (repeated_fault moved.nodes) (place_and_more moved) same_repeated
+              (both_none (place_fault moved) (edge_and_size moved) no_place_fault
+                  (both_none (edge_fault (number_of_id (ids_of moved.nodes)) moved.edges) (size_fault (length (points_in moved)) (length (pieces_in moved)))
+                      same_edge_fault same_sizes)))
