@@ -68,7 +68,7 @@ changed_is_first key change (pair ∷ pairs) a is =
     by_head (found_tail (has_key key) pair pairs a is) (λ k found. changed_is_first key change pairs k found)
   where
     by_head : ((has_key key pair ≡ true) × (a ≡ 0)) ⊎ ((has_key key pair ≡ false) × (a ≡ suc (prefix_len (λ y. not (has_key key y)) pairs)) ×
-            (position (has_key key) pairs ≡ Some (prefix_len (λ y. not (has_key key y)) pairs))) →
+        (position (has_key key) pairs ≡ Some (prefix_len (λ y. not (has_key key y)) pairs))) →
         ((k : ℕ) → place_under key pairs ≡ Some k → changed_at k change pairs ≡ change_first key change pairs) →
         changed_at a change (pair ∷ pairs) ≡ change_first key change (pair ∷ pairs)
     by_head (inl h) rest = rw (h.0, h.1) refl

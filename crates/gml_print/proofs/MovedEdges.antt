@@ -25,7 +25,6 @@ span_with source target first at_source bends = record { source = source; target
 module _ (where_is : ℕ → Point) (look : ℤ → Option ℕ) (nodes new_nodes : List Point) (bound : ℕ)
     (at : (v : ℕ) → v < bound → place new_nodes v ≡ where_is v)
     (known : (end : WholeNumber) → unwrap_or (node_with look end) 0 < bound) where
-
   starts : Edge → Bool
   starts edge = begins_at (place nodes (route_of look edge).source) (route_of look edge).points
 
@@ -38,7 +37,7 @@ module _ (where_is : ℕ → Point) (look : ℤ → Option ℕ) (nodes new_nodes
   new_points : (first : ℕ) (edge : Edge) → HavePoints edge.points →
       (route_of look (moved_of first edge)).points ≡
       map where_is (only_if (starts edge) (route_of look edge).source ++
-          (range_with_len first (length (bends_of nodes (route_of look edge))) ++ only_if (ends edge) (route_of look edge).target))
+      (range_with_len first (length (bends_of nodes (route_of look edge))) ++ only_if (ends edge) (route_of look edge).target))
   unfolding starts ends moved_of
   new_points first edge have =
       let route = route_of look edge in
@@ -75,7 +74,7 @@ module _ (where_is : ℕ → Point) (look : ℤ → Option ℕ) (nodes new_nodes
   KeepTheirVertices olds news first =
       (spans_from new_nodes first (map (route_of look) news) ≡ spans_from nodes first (map (route_of look) olds))
       × (flat_map (bends_of new_nodes) (map (route_of look) news) ≡
-          map where_is (range_with_len first (length (flat_map (bends_of nodes) (map (route_of look) olds)))))
+      map where_is (range_with_len first (length (flat_map (bends_of nodes) (map (route_of look) olds)))))
 
   together : (first : ℕ) (edge : Edge) (olds news : List Edge) → HavePoints edge.points →
       Apart where_is (span_pieces (span_of nodes first (route_of look edge))) →
@@ -84,9 +83,10 @@ module _ (where_is : ℕ → Point) (look : ℤ → Option ℕ) (nodes new_nodes
       let long = length (bends_of nodes (route_of look edge)) in
       let more = length (flat_map (bends_of nodes) (map (route_of look) olds)) in
       let all : length (bends_of nodes (route_of look edge) ++ flat_map (bends_of nodes) (map (route_of look) olds)) ≡ long + more =
-      length-append (bends_of nodes (route_of look edge)) (flat_map (bends_of nodes) (map (route_of look) olds)) in
-      (rw (same_span first edge have apart, same_count first edge have apart, rest.0) refl,
-      rw (same_bends first edge have apart, rest.1, all, range_append first long more, map-append where_is (range_with_len first long) (range_with_len (first + long) more)) refl)
+      length-append (bends_of nodes (route_of look edge)) (flat_map (bends_of nodes) (map (route_of look) olds)) in (
+        rw (same_span first edge have apart, same_count first edge have apart, rest.0) refl,
+        rw (same_bends first edge have apart, rest.1, all, range_append first long more, map-append where_is (range_with_len first long) (range_with_len (first + long) more)) refl,
+      )
 
   pub edges_moved : (span_at : ℕ → Span) (first e : ℕ) (edges : List Edge) → EdgesHavePoints edges →
       ((k : ℕ) → span_at (e + k) ≡ slice_index_or (spans_from nodes first (map (route_of look) edges)) k no_span) →

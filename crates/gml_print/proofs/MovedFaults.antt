@@ -138,7 +138,7 @@ module _ (where_is : ℕ → Point) where
     -- no number of the moved graph is refused
     pub numbers_fit : (n e : ℕ) (nodes : List Node) (edges : List Edge) →
         filter_map refused_in (flat_map (λ node. both_numbers node.place) (moved_nodes where_is n nodes)
-            ++ flat_map (λ edge. flat_map both_numbers edge.points) (moved_edges where_is span_at e edges)) ≡ []
+        ++ flat_map (λ edge. flat_map both_numbers edge.points) (moved_edges where_is span_at e edges)) ≡ []
     numbers_fit n e nodes edges =
         none_more (flat_map (λ node. both_numbers node.place) (moved_nodes where_is n nodes)) (flat_map (λ edge. flat_map both_numbers edge.points) (moved_edges where_is span_at e edges))
         (nodes_refuse_none n nodes) (edges_refuse_none e edges)
@@ -177,10 +177,10 @@ module _ (where_is : ℕ → Point) where
         let unknown : position (has_unknown_end look) (moved_edges where_is span_at 0 edges) ≡ position (has_unknown_end look) edges =
         ends_position (λ (ends : WholeNumber × WholeNumber). is_none (node_with look ends.0) || is_none (node_with look ends.1)) 0 edges in
         let rest = neither (option_map (λ e. NoEnd e) (position lacks_end edges))
-            (option_or (option_map (λ e. UnknownEnd e) (position (has_unknown_end look) edges)) (bad_point_from 0 edges)) is in
+        (option_or (option_map (λ e. UnknownEnd e) (position (has_unknown_end look) edges)) (bad_point_from 0 edges)) is in
         let bad = (neither (option_map (λ e. UnknownEnd e) (position (has_unknown_end look) edges)) (bad_point_from 0 edges) rest.1).1 in
         same_edge_faults (position lacks_end (moved_edges where_is span_at 0 edges)) (position lacks_end edges)
-            (position (has_unknown_end look) (moved_edges where_is span_at 0 edges)) (position (has_unknown_end look) edges)
-            (bad_point_from 0 (moved_edges where_is span_at 0 edges)) (bad_point_from 0 edges)
-            lacks unknown (no_bad_point 0 0 edges (edges_have_points 0 edges bad) ∙ sym bad)
+        (position (has_unknown_end look) (moved_edges where_is span_at 0 edges)) (position (has_unknown_end look) edges)
+        (bad_point_from 0 (moved_edges where_is span_at 0 edges)) (bad_point_from 0 edges)
+        lacks unknown (no_bad_point 0 0 edges (edges_have_points 0 edges bad) ∙ sym bad)
         ∙ is

@@ -182,7 +182,7 @@ module _ (where_is : ℕ → Point) where
   before_last false source first zero target apart = refl
   before_last false source first (suc n) target apart =
       before_no_last target (range_with_len first (suc n))
-          (not_at_end target (first + n) (range_with_len first (suc n)) (range_with_len first n) (range_push first n) (last_apart source first n target apart))
+      (not_at_end target (first + n) (range_with_len first (suc n)) (range_with_len first n) (range_push first n) (last_apart source first n target apart))
 
   -- the vertices of an edge's points stand apart as its pieces do: so its new points have the same bends
   module _ (nodes : List Point) (route : Route)
@@ -198,7 +198,7 @@ module _ (where_is : ℕ → Point) where
     new_bends s t first n apart points =
         rw (source, target, points)
         (ap (before_last_at (where_is route.target))
-            (after_first s route.source (range_with_len first n ++ only_if t route.target) (begins s t route.source first n route.target apart))
+        (after_first s route.source (range_with_len first n ++ only_if t route.target) (begins s t route.source first n route.target apart))
         ∙ before_last t route.source first n route.target apart)
 
   abbrev pub moved_numbers : ℕ → Numbers → Numbers

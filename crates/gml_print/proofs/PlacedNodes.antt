@@ -166,6 +166,6 @@ module _ (places : Places) (pitch : ℕ) (where_is : ℕ → Point)
   node_placed n pairs have =
       let put = node_put places pitch n pairs in
       ap (λ (o : Option Pair). made_node (option_map_or (λ (pair : Pair). whole_in pair.value) o Absent) (node_of (placed_node places pitch n pairs)).place)
-          (put.others (codes "id") (apart_words (codes "graphics") (codes "id") refl))
+      (put.others (codes "id") (apart_words (codes "graphics") (codes "id") refl))
       ∙ ap (made_node (whole_under (codes "id") pairs))
-          (ap (option_and_then numbers_in) put.list ∙ place_placed n (first_list (codes "graphics") pairs) have)
+      (ap (option_and_then numbers_in) put.list ∙ place_placed n (first_list (codes "graphics") pairs) have)

@@ -161,7 +161,7 @@ placed_reading tree reading places pitch shape can same drawing =
     ap (lists_under (codes "graph")) (new_top ∙ changed_here) ∙ only.1.new_lists ∙ ap (λ (list : List Pair). list ∷ []) (graph_put places pitch spans pairs) in
     let same_place : at ≡ graph_place new =
     here ∙ sym (ap (λ (pairs : List Pair). unwrap_or (position (λ pair. is_some (list_under (codes "graph") pair)) pairs) 0) (new_top ∙ changed_here)
-        ∙ ap (λ (o : Option ℕ). unwrap_or o 0) only.1.new_place) in
+    ∙ ap (λ (o : Option ℕ). unwrap_or o 0) only.1.new_place) in
     let apart = drawing_apart pitch places shape reading.plan can.within can.some_pitch same drawing in
     let P : ℕ → Type 0 = λ at. IsGraphReading at (placed_graph places pitch spans 0 0 pairs) (moved_reading reading places pitch) in
     is_one (graphs_of new) (placed_graph places pitch spans 0 0 pairs) (λ pairs. IsGraphReading (graph_place new) pairs (moved_reading reading places pitch)) lists
