@@ -1,6 +1,6 @@
 -- A row can be written, and is written at its best places.
-use Rattle.std.proofs.Common.{◌≡◌, ℕ, ◌+◌, ◌<◌, ◌≤◌, pos, length, refl, sym, ap, ◌∙◌, subst, arith, zero-add}
-use Rattle.std.specs.Prelude.{ℤ, ◌≤ℤ◌}
+use Rattle.std.proofs.Common.{◌≡◌, ℕ, ◌<◌, ◌≤◌, pos, length, sym, ap, subst, arith, zero-add}
+use Rattle.std.specs.Prelude.{◌≤ℤ◌}
 use Rattle.std.proofs.lemmas.Int.{ints}
 use Rattle.std.proofs.lemmas.List.FromFn.{length-map-range_with_len, get_or-map-range_with_len}
 use Rattle.compact_types.specs.declared.places.Axis.{Axis}
@@ -10,7 +10,7 @@ use Rattle.compact_types.specs.declared.plan.Plan.{Plan}
 use Rattle.compact_types.specs.declared.plan.Shape.{Shape}
 use Rattle.compact_types.specs.Connected.{IsConnected}
 use Rattle.compact_types.specs.Bests.{total_length, IsBest}
-use Rattle.compact_types.specs.Lookups.{origin, along, place}
+use Rattle.compact_types.specs.Lookups.{origin, along}
 use Rattle.gml_text.specs.declared.tree.Tree.{Tree}
 use Rattle.drawing_read.specs.declared.reading.Reading.{Reading}
 use Rattle.gml_print.specs.Places.{AreWithin, CanPut}

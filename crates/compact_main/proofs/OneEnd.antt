@@ -1,9 +1,7 @@
 -- A command answers a text in one way.
-use Rattle.std.proofs.Common.{◌≡◌, ℕ, ◌<◌, ◌≤◌, List, ◌++◌, length, Option, None, Some, inl, refl, sym, ap, ◌∙◌, subst, arith, append-nil}
+use Rattle.std.proofs.Common.{◌≡◌, ℕ, List, ◌++◌, Option, None, Some, inl, refl, sym, ap, ◌∙◌, subst, arith, append-nil}
 use Rattle.std.specs.Io.KnownBytes.{Consumes, IsAtEnd}
-use Rattle.compact_types.specs.declared.plan.Plan.{Plan}
 use Rattle.compact_types.specs.declared.plan.Shape.{Shape as AnyShape}
-use Rattle.compact_types.specs.declared.places.Places.{Places}
 use Rattle.gml_text.specs.declared.tree.Tree.{Tree}
 use Rattle.gml_text.specs.Texts.{Spells}
 use Rattle.gml_text.proofs.OneAnswer.{one_answer}
@@ -17,11 +15,10 @@ use Rattle.compact_main.specs.declared.command.Command.{Command}
 use Rattle.compact_main.specs.declared.command.Command.TheVariants as commands
 use Rattle.compact_main.specs.declared.status.Why.{Why}
 use Rattle.compact_main.specs.declared.status.Why.TheVariants.{TooLong, Gml, Draw, Shape, NotYet}
-use Rattle.compact_main.specs.declared.status.Status.{Status}
-use Rattle.compact_main.specs.declared.status.Status.TheVariants.{Done, Refused, NoMemory}
+use Rattle.compact_main.specs.declared.status.Status.TheVariants.{Done, Refused}
 use Rattle.compact_main.specs.Commands.{Asks}
 use Rattle.compact_main.specs.Drawings.{HoldsDrawing, FirstTextFault}
-use Rattle.compact_main.specs.Outputs.{Output, IsBuilt, IsValid, IsNotYet, FirstFault}
+use Rattle.compact_main.specs.Outputs.{Output, IsBuilt, IsValid, FirstFault}
 use Rattle.compact_main.specs.Runs.{IsRefused, Completes}
 use Rattle.compact_main.proofs.ReadingLimits.{one_reading, reading_faultless, one_draw_fault}
 

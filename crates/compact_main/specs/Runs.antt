@@ -4,15 +4,11 @@ use Rattle.std.specs.Io.KnownBytes.{Consumes, IsAtEnd, Appends}
 use Rattle.io_ends.specs.Ends.{AppendsFront}
 use Rattle.compact_main.specs.declared.command.Command.{Command}
 use Rattle.compact_main.specs.declared.status.Why.{Why}
-use Rattle.compact_main.specs.declared.status.Why.TheVariants.{TooLong, NotYet}
+use Rattle.compact_main.specs.declared.status.Why.TheVariants.{TooLong}
 use Rattle.compact_main.specs.declared.status.Status.{Status}
 use Rattle.compact_main.specs.declared.status.Status.TheVariants.{Done, Refused, NoMemory}
 use Rattle.compact_main.specs.Commands.{Asks}
 use Rattle.compact_main.specs.Outputs.{Output, IsValid, FirstFault}
-
--- the words ask for a command
-abbrev pub AreRight : List (List ℕ) → Type 0
-AreRight words = (command : Command) × Asks words command
 
 -- the words were right, the text was read to its end, and this is what the command writes for it
 pub record Answers (words : List (List ℕ)) (left left' : Option (List ℕ)) (written : List ℕ) : Type 0 where

@@ -1,19 +1,17 @@
 -- The edges of a graph whose vertices stand at other places: by their vertices they are as they were.
-use Rattle.std.proofs.Common.{◌≡◌, ℕ, zero, suc, ◌+◌, ◌-◌, ◌<◌, ◌≤◌, arith, ℤ, pos, Bool, true, false, cond, List, [], ◌∷◌, ◌++◌, length, map, Option, None, Some, refl, sym, ap, ◌∙◌, subst, add-zero, zero-add, slice_index_or}
+use Rattle.std.proofs.Common.{◌≡◌, ℕ, suc, ◌+◌, ◌<◌, arith, ℤ, Bool, true, false, cond, List, [], ◌∷◌, ◌++◌, length, map, Option, refl, sym, ap, ◌∙◌, add-zero, slice_index_or}
 use Rattle.std.specs.Prelude.{unwrap_or}
 use Rattle.std.specs.List.{range_with_len, flat_map}
 use Rattle.std.proofs.lemmas.List.{length-map, map-append, length-append}
 use Rattle.compact_types.specs.declared.places.Point.{Point}
-use Rattle.compact_types.specs.declared.plan.Piece.{Piece}
 use Rattle.compact_types.specs.Lookups.{place}
 use Rattle.drawing_read.specs.declared.written.WholeNumber.{WholeNumber}
 use Rattle.drawing_read.specs.declared.written.Edge.{Edge}
-use Rattle.drawing_read.specs.declared.route.Route.{Route}
 use Rattle.drawing_read.specs.declared.route.Span.{Span}
 use Rattle.drawing_read.specs.Routes.{point_of, route_of, begins_at, ends_at, after_first_at, bends_of, points_at_source, span_of, spans_from, span_pieces, pieces_of, node_with}
 use Rattle.drawing_read.specs.Spots.{no_span}
 use Rattle.gml_print.proofs.ListFacts.{range_append, length_range}
-use Rattle.gml_print.proofs.MovedGraphs.{HavePoints, EdgesHavePoints, count, only_if, vertices_from, all_vertices, Apart, apart_parts, new_start, new_bends, moved_points, moved_edge, moved_edges, moved_route_points, after_length, before_length}
+use Rattle.gml_print.proofs.MovedGraphs.{HavePoints, EdgesHavePoints, count, only_if, all_vertices, Apart, apart_parts, new_start, new_bends, moved_edge, moved_edges, moved_route_points, after_length, before_length}
 
 one_if : (b : Bool) → cond b 1 0 ≡ count b
 one_if true = refl

@@ -1,12 +1,10 @@
 -- A graph without a fault has none after its vertices were moved.
-use Rattle.std.proofs.Common.{◌≡◌, ℕ, zero, suc, ◌+◌, ◌-◌, ◌<◌, ◌≤◌, arith, ℤ, pos, Bool, true, false, cond, List, [], ◌∷◌, ◌++◌, length, map, Option, None, Some, Result, Ok, Err, refl, sym, ap, ◌∙◌, subst, nat_lt, ◌||◌}
+use Rattle.std.proofs.Common.{◌≡◌, ℕ, suc, ◌+◌, ◌<◌, ℤ, pos, Bool, List, [], ◌∷◌, ◌++◌, length, map, Option, None, Some, refl, sym, ap, ◌∙◌, nat_lt, ◌||◌}
 use Rattle.std.specs.Prelude.{unwrap_or, is_none, if◌then◌else◌}
 use Rattle.std.specs.List.{position, filter_map, flat_map}
 use Rattle.std.specs.Option.{option_map, option_or}
 use Rattle.std.specs.Ordering.{int_eq}
-use Rattle.std.proofs.lemmas.Bool.Decides.{nat_tests}
 use Rattle.std.proofs.lemmas.List.Elements.{filter_map-append}
-use Rattle.std.proofs.lemmas.List.{length-map}
 use Rattle.std.proofs.lemmas.List.Quantifiers.{position-Some}
 use Rattle.compact_types.specs.declared.places.Point.{Point}
 use Rattle.drawing_read.specs.declared.written.Number.{Number}
@@ -21,7 +19,7 @@ use Rattle.drawing_read.specs.Routes.{ids_of, number_of_id, node_with, fitting}
 use Rattle.drawing_read.specs.Spots.{point_vertex}
 use Rattle.drawing_read.specs.DrawFaults.{is_absent, is_unfit, is_no_numeral, id_fault, edge_fault, lacks_end, has_unknown_end, bad_point_from, both_numbers, refused_in}
 use Rattle.gml_print.proofs.ListFacts.{position-map, position_none_tail, position_none_cons, neither, both_none}
-use Rattle.gml_print.proofs.MovedGraphs.{HavePlaces, HavePoints, EdgesHavePoints, moved_numbers, moved_node, moved_nodes, moved_points, moved_edge, moved_edges}
+use Rattle.gml_print.proofs.MovedGraphs.{HavePlaces, HavePoints, EdgesHavePoints, moved_numbers, moved_node, moved_nodes, moved_points, moved_edges}
 
 none_mapped : {X Y : Type 0} (f : X → Y) (o : Option X) → option_map f o ≡ None → o ≡ None
 none_mapped f None is = refl

@@ -1,25 +1,22 @@
 -- The reading of a graph whose vertices were moved: the same edges by their vertices, and the new places.
-use Rattle.std.proofs.Common.{◌≡◌, ℕ, zero, suc, ◌+◌, ◌-◌, ◌<◌, ◌≤◌, arith, ℤ, pos, Bool, true, false, cond, List, [], ◌∷◌, ◌++◌, length, map, Option, None, Some, refl, sym, ap, ◌∙◌, subst, nat_lt, zero-add, slice_index_or}
-use Rattle.std.specs.Prelude.{unwrap_or, is_none, if◌then◌else◌}
-use Rattle.std.specs.List.{position, filter_map, flat_map, range_with_len, find}
+use Rattle.std.proofs.Common.{◌≡◌, ℕ, ◌+◌, ◌<◌, arith, ℤ, List, [], ◌∷◌, ◌++◌, length, map, Option, None, Some, refl, sym, ap, ◌∙◌, zero-add, slice_index_or}
+use Rattle.std.specs.Prelude.{unwrap_or, is_none}
+use Rattle.std.specs.List.{position, filter_map, flat_map, range_with_len}
 use Rattle.std.specs.Option.{option_map, option_or}
-use Rattle.std.proofs.lemmas.Bool.Decides.{nat_tests}
 use Rattle.std.proofs.lemmas.List.{length-map, map-append, length-append}
 use Rattle.std.proofs.lemmas.List.FromFn.{get_or-map-range_with_len}
 use Rattle.compact_types.specs.declared.places.Point.{Point}
 use Rattle.compact_types.specs.Lookups.{origin, place}
 use Rattle.drawing_read.specs.declared.written.WholeNumber.{WholeNumber}
 use Rattle.drawing_read.specs.declared.written.Number.{Number}
-use Rattle.drawing_read.specs.declared.written.RefusedNumber.{RefusedNumber}
 use Rattle.drawing_read.specs.declared.written.Node.{Node}
 use Rattle.drawing_read.specs.declared.written.Edge.{Edge}
 use Rattle.drawing_read.specs.declared.written.Graph.{Graph}
 use Rattle.drawing_read.specs.declared.fault.DrawFault.{DrawFault}
-use Rattle.drawing_read.specs.declared.fault.DrawFault.TheVariants.{Empty, NoId, BadId, RepeatedId, NoPlace, BadNumber, NoEnd, UnknownEnd}
-use Rattle.drawing_read.specs.declared.route.Span.{Span}
-use Rattle.drawing_read.specs.Routes.{ids_of, number_of_id, node_with, node_points, point_of, route_of, routes_by, bends_of, spans_from, points_by, spans_by, pieces_of, points_in, spans_in, pieces_in}
+use Rattle.drawing_read.specs.declared.fault.DrawFault.TheVariants.{RepeatedId, NoPlace, BadNumber, NoEnd, UnknownEnd}
+use Rattle.drawing_read.specs.Routes.{ids_of, number_of_id, node_with, node_points, routes_by, bends_of, spans_from, points_by, spans_by, pieces_of, points_in, spans_in, pieces_in}
 use Rattle.drawing_read.specs.Spots.{no_span}
-use Rattle.drawing_read.specs.DrawFaults.{is_absent, is_unfit, id_fault, repeated_fault, place_fault, edge_fault, size_fault, graph_fault, first_repeated, numbers_of, first_refused, refused_in, lacks_end, has_unknown_end, bad_point_from}
+use Rattle.drawing_read.specs.DrawFaults.{id_fault, repeated_fault, place_fault, edge_fault, size_fault, graph_fault, first_repeated, numbers_of, first_refused, refused_in, lacks_end, has_unknown_end, bad_point_from}
 use Rattle.gml_print.proofs.ListFacts.{neither, both_none, range_append, length_range}
 use Rattle.gml_print.proofs.MovedGraphs.{HavePlaces, EdgesHavePoints, Apart, moved_nodes, moved_edges, moved_node_points}
 use Rattle.gml_print.proofs.MovedEdges.{KeepTheirVertices, edges_moved}

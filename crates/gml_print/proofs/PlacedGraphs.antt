@@ -1,5 +1,5 @@
 -- The list of a graph after the numerals of its spots were put.
-use Rattle.std.proofs.Common.{◌≡◌, ℕ, zero, suc, ◌+◌, ◌⊎◌, inl, inr, arith, ℤ, pos, Bool, true, false, cond, List, [], ◌∷◌, ◌++◌, length, map, Option, None, Some, Result, Ok, Err, refl, sym, ap, ◌∙◌, subst, append_assoc, append-nil, slice_index_or}
+use Rattle.std.proofs.Common.{◌≡◌, ℕ, suc, ◌+◌, pos, Bool, true, false, cond, List, [], ◌∷◌, ◌++◌, length, Option, None, Some, Ok, refl, ap, ◌∙◌, append-nil, slice_index_or}
 use Rattle.std.specs.Option.{option_map, option_map_or}
 use Rattle.std.specs.List.{filter_map, cons_option, position}
 use Rattle.std.specs.Prelude.{codes, is_some, ◌*ℤ◌}
@@ -9,20 +9,16 @@ use Rattle.compact_types.specs.declared.places.Places.{Places}
 use Rattle.compact_types.specs.Lookups.{place, along}
 use Rattle.gml_text.specs.declared.tree.Pair.{Pair}
 use Rattle.gml_text.specs.declared.tree.Value.{Value}
-use Rattle.drawing_read.specs.declared.reading.Spot.{Spot}
 use Rattle.drawing_read.specs.declared.route.Span.{Span}
-use Rattle.drawing_read.specs.declared.written.Node.{Node}
-use Rattle.drawing_read.specs.declared.written.Edge.{Edge}
-use Rattle.drawing_read.specs.declared.written.Graph.{Graph}
 use Rattle.drawing_read.specs.Lookups.{has_key, list_in, list_under, lists_under}
 use Rattle.drawing_read.specs.Thousandths.{thousandths_of}
-use Rattle.drawing_read.specs.WrittenGraphs.{node_of, node_in, edge_of, edge_in, graph_of}
+use Rattle.drawing_read.specs.WrittenGraphs.{node_of, node_in, edge_of, edge_in}
 use Rattle.drawing_read.specs.Spots.{node_spots, edge_spots, no_span, pair_spots, counted, graph_spots}
 use Rattle.gml_print.specs.Numbers.{number_text}
 use Rattle.gml_print.specs.Placing.{with_changed_value}
 use Rattle.gml_print.proofs.ListFacts.{position_here, position_later}
 use Rattle.gml_print.proofs.Changes.{changed_at, apart_words}
-use Rattle.gml_print.proofs.Puts.{behind, puts, replaced_by, replaced_by_list}
+use Rattle.gml_print.proofs.Puts.{puts, replaced_by, replaced_by_list}
 use Rattle.gml_print.proofs.MovedGraphs.{HavePlaces, EdgesHavePoints, moved_nodes, moved_edges}
 use Rattle.gml_print.proofs.SpotPaths.{pair_relative, pair_leads}
 use Rattle.gml_print.proofs.PlacedNodes.{placed_node, node_placed, same_node_spots}

@@ -1,4 +1,3 @@
-use Rattle.std.proofs.Common.{◌≡◌, ℕ, List, Some}
 use Rattle.compact_main.specs.Commands.{texts_of}
 use Rattle.compact_main.proofs.OneEnd.{completes_done, completes_refused, refused_run}
 use Rattle.compact_main.proofs.run.run_command.Goals as goal
