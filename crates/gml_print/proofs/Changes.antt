@@ -1,6 +1,6 @@
 -- Lists of pairs with the value of one pair changed.
-use Rattle.std.proofs.Common.{◌≡◌, ℕ, zero, suc, ◌+◌, ◌-◌, ◌<◌, ◌≤◌, ◌⊎◌, inl, inr, arith, Bool, true, false, not, cond, List, [], ◌∷◌, ◌++◌, length, map, Option, None, Some, refl, sym, ap, ◌∙◌, nat_lt}
-use Rattle.std.specs.List.{position, find, prefix_len}
+use Rattle.std.proofs.Common.{◌≡◌, ℕ, zero, suc, ◌+◌, ◌⊎◌, inl, inr, arith, Bool, true, false, not, cond, List, [], ◌∷◌, ◌++◌, length, map, Option, None, Some, refl, sym, ap, ◌∙◌, nat_lt}
+use Rattle.std.specs.List.{position, prefix_len}
 use Rattle.std.specs.Option.{option_map}
 use Rattle.std.specs.Prelude.{slice_get}
 use Rattle.std.specs.Str.{bytes_eq}
@@ -68,7 +68,7 @@ changed_is_first key change (pair ∷ pairs) a is =
     by_head (found_tail (has_key key) pair pairs a is) (λ k found. changed_is_first key change pairs k found)
   where
     by_head : ((has_key key pair ≡ true) × (a ≡ 0)) ⊎ ((has_key key pair ≡ false) × (a ≡ suc (prefix_len (λ y. not (has_key key y)) pairs)) ×
-            (position (has_key key) pairs ≡ Some (prefix_len (λ y. not (has_key key y)) pairs))) →
+        (position (has_key key) pairs ≡ Some (prefix_len (λ y. not (has_key key y)) pairs))) →
         ((k : ℕ) → place_under key pairs ≡ Some k → changed_at k change pairs ≡ change_first key change pairs) →
         changed_at a change (pair ∷ pairs) ≡ change_first key change (pair ∷ pairs)
     by_head (inl h) rest = rw (h.0, h.1) refl

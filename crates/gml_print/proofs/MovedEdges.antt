@@ -1,19 +1,17 @@
 -- The edges of a graph whose vertices stand at other places: by their vertices they are as they were.
-use Rattle.std.proofs.Common.{◌≡◌, ℕ, zero, suc, ◌+◌, ◌-◌, ◌<◌, ◌≤◌, arith, ℤ, pos, Bool, true, false, cond, List, [], ◌∷◌, ◌++◌, length, map, Option, None, Some, refl, sym, ap, ◌∙◌, subst, add-zero, zero-add, slice_index_or}
+use Rattle.std.proofs.Common.{◌≡◌, ℕ, suc, ◌+◌, ◌<◌, arith, ℤ, Bool, true, false, cond, List, [], ◌∷◌, ◌++◌, length, map, Option, refl, sym, ap, ◌∙◌, add-zero, slice_index_or}
 use Rattle.std.specs.Prelude.{unwrap_or}
 use Rattle.std.specs.List.{range_with_len, flat_map}
 use Rattle.std.proofs.lemmas.List.{length-map, map-append, length-append}
 use Rattle.compact_types.specs.declared.places.Point.{Point}
-use Rattle.compact_types.specs.declared.plan.Piece.{Piece}
 use Rattle.compact_types.specs.Lookups.{place}
 use Rattle.drawing_read.specs.declared.written.WholeNumber.{WholeNumber}
 use Rattle.drawing_read.specs.declared.written.Edge.{Edge}
-use Rattle.drawing_read.specs.declared.route.Route.{Route}
 use Rattle.drawing_read.specs.declared.route.Span.{Span}
 use Rattle.drawing_read.specs.Routes.{point_of, route_of, begins_at, ends_at, after_first_at, bends_of, points_at_source, span_of, spans_from, span_pieces, pieces_of, node_with}
 use Rattle.drawing_read.specs.Spots.{no_span}
 use Rattle.gml_print.proofs.ListFacts.{range_append, length_range}
-use Rattle.gml_print.proofs.MovedGraphs.{HavePoints, EdgesHavePoints, count, only_if, vertices_from, all_vertices, Apart, apart_parts, new_start, new_bends, moved_points, moved_edge, moved_edges, moved_route_points, after_length, before_length}
+use Rattle.gml_print.proofs.MovedGraphs.{HavePoints, EdgesHavePoints, count, only_if, all_vertices, Apart, apart_parts, new_start, new_bends, moved_edge, moved_edges, moved_route_points, after_length, before_length}
 
 one_if : (b : Bool) → cond b 1 0 ≡ count b
 one_if true = refl
@@ -25,7 +23,6 @@ span_with source target first at_source bends = record { source = source; target
 module _ (where_is : ℕ → Point) (look : ℤ → Option ℕ) (nodes new_nodes : List Point) (bound : ℕ)
     (at : (v : ℕ) → v < bound → place new_nodes v ≡ where_is v)
     (known : (end : WholeNumber) → unwrap_or (node_with look end) 0 < bound) where
-
   starts : Edge → Bool
   starts edge = begins_at (place nodes (route_of look edge).source) (route_of look edge).points
 
@@ -38,7 +35,7 @@ module _ (where_is : ℕ → Point) (look : ℤ → Option ℕ) (nodes new_nodes
   new_points : (first : ℕ) (edge : Edge) → HavePoints edge.points →
       (route_of look (moved_of first edge)).points ≡
       map where_is (only_if (starts edge) (route_of look edge).source ++
-          (range_with_len first (length (bends_of nodes (route_of look edge))) ++ only_if (ends edge) (route_of look edge).target))
+      (range_with_len first (length (bends_of nodes (route_of look edge))) ++ only_if (ends edge) (route_of look edge).target))
   unfolding starts ends moved_of
   new_points first edge have =
       let route = route_of look edge in
@@ -75,7 +72,7 @@ module _ (where_is : ℕ → Point) (look : ℤ → Option ℕ) (nodes new_nodes
   KeepTheirVertices olds news first =
       (spans_from new_nodes first (map (route_of look) news) ≡ spans_from nodes first (map (route_of look) olds))
       × (flat_map (bends_of new_nodes) (map (route_of look) news) ≡
-          map where_is (range_with_len first (length (flat_map (bends_of nodes) (map (route_of look) olds)))))
+      map where_is (range_with_len first (length (flat_map (bends_of nodes) (map (route_of look) olds)))))
 
   together : (first : ℕ) (edge : Edge) (olds news : List Edge) → HavePoints edge.points →
       Apart where_is (span_pieces (span_of nodes first (route_of look edge))) →
@@ -84,9 +81,10 @@ module _ (where_is : ℕ → Point) (look : ℤ → Option ℕ) (nodes new_nodes
       let long = length (bends_of nodes (route_of look edge)) in
       let more = length (flat_map (bends_of nodes) (map (route_of look) olds)) in
       let all : length (bends_of nodes (route_of look edge) ++ flat_map (bends_of nodes) (map (route_of look) olds)) ≡ long + more =
-      length-append (bends_of nodes (route_of look edge)) (flat_map (bends_of nodes) (map (route_of look) olds)) in
-      (rw (same_span first edge have apart, same_count first edge have apart, rest.0) refl,
-      rw (same_bends first edge have apart, rest.1, all, range_append first long more, map-append where_is (range_with_len first long) (range_with_len (first + long) more)) refl)
+      length-append (bends_of nodes (route_of look edge)) (flat_map (bends_of nodes) (map (route_of look) olds)) in (
+        rw (same_span first edge have apart, same_count first edge have apart, rest.0) refl,
+        rw (same_bends first edge have apart, rest.1, all, range_append first long more, map-append where_is (range_with_len first long) (range_with_len (first + long) more)) refl,
+      )
 
   pub edges_moved : (span_at : ℕ → Span) (first e : ℕ) (edges : List Edge) → EdgesHavePoints edges →
       ((k : ℕ) → span_at (e + k) ≡ slice_index_or (spans_from nodes first (map (route_of look) edges)) k no_span) →

@@ -1,12 +1,10 @@
 -- A graph without a fault has none after its vertices were moved.
-use Rattle.std.proofs.Common.{◌≡◌, ℕ, zero, suc, ◌+◌, ◌-◌, ◌<◌, ◌≤◌, arith, ℤ, pos, Bool, true, false, cond, List, [], ◌∷◌, ◌++◌, length, map, Option, None, Some, Result, Ok, Err, refl, sym, ap, ◌∙◌, subst, nat_lt, ◌||◌}
+use Rattle.std.proofs.Common.{◌≡◌, ℕ, suc, ◌+◌, ◌<◌, ℤ, pos, Bool, List, [], ◌∷◌, ◌++◌, length, map, Option, None, Some, refl, sym, ap, ◌∙◌, nat_lt, ◌||◌}
 use Rattle.std.specs.Prelude.{unwrap_or, is_none, if◌then◌else◌}
 use Rattle.std.specs.List.{position, filter_map, flat_map}
 use Rattle.std.specs.Option.{option_map, option_or}
 use Rattle.std.specs.Ordering.{int_eq}
-use Rattle.std.proofs.lemmas.Bool.Decides.{nat_tests}
 use Rattle.std.proofs.lemmas.List.Elements.{filter_map-append}
-use Rattle.std.proofs.lemmas.List.{length-map}
 use Rattle.std.proofs.lemmas.List.Quantifiers.{position-Some}
 use Rattle.compact_types.specs.declared.places.Point.{Point}
 use Rattle.drawing_read.specs.declared.written.Number.{Number}
@@ -21,7 +19,7 @@ use Rattle.drawing_read.specs.Routes.{ids_of, number_of_id, node_with, fitting}
 use Rattle.drawing_read.specs.Spots.{point_vertex}
 use Rattle.drawing_read.specs.DrawFaults.{is_absent, is_unfit, is_no_numeral, id_fault, edge_fault, lacks_end, has_unknown_end, bad_point_from, both_numbers, refused_in}
 use Rattle.gml_print.proofs.ListFacts.{position-map, position_none_tail, position_none_cons, neither, both_none}
-use Rattle.gml_print.proofs.MovedGraphs.{HavePlaces, HavePoints, EdgesHavePoints, moved_numbers, moved_node, moved_nodes, moved_points, moved_edge, moved_edges}
+use Rattle.gml_print.proofs.MovedGraphs.{HavePlaces, HavePoints, EdgesHavePoints, moved_numbers, moved_node, moved_nodes, moved_points, moved_edges}
 
 none_mapped : {X Y : Type 0} (f : X → Y) (o : Option X) → option_map f o ≡ None → o ≡ None
 none_mapped f None is = refl
@@ -138,7 +136,7 @@ module _ (where_is : ℕ → Point) where
     -- no number of the moved graph is refused
     pub numbers_fit : (n e : ℕ) (nodes : List Node) (edges : List Edge) →
         filter_map refused_in (flat_map (λ node. both_numbers node.place) (moved_nodes where_is n nodes)
-            ++ flat_map (λ edge. flat_map both_numbers edge.points) (moved_edges where_is span_at e edges)) ≡ []
+        ++ flat_map (λ edge. flat_map both_numbers edge.points) (moved_edges where_is span_at e edges)) ≡ []
     numbers_fit n e nodes edges =
         none_more (flat_map (λ node. both_numbers node.place) (moved_nodes where_is n nodes)) (flat_map (λ edge. flat_map both_numbers edge.points) (moved_edges where_is span_at e edges))
         (nodes_refuse_none n nodes) (edges_refuse_none e edges)
@@ -177,10 +175,10 @@ module _ (where_is : ℕ → Point) where
         let unknown : position (has_unknown_end look) (moved_edges where_is span_at 0 edges) ≡ position (has_unknown_end look) edges =
         ends_position (λ (ends : WholeNumber × WholeNumber). is_none (node_with look ends.0) || is_none (node_with look ends.1)) 0 edges in
         let rest = neither (option_map (λ e. NoEnd e) (position lacks_end edges))
-            (option_or (option_map (λ e. UnknownEnd e) (position (has_unknown_end look) edges)) (bad_point_from 0 edges)) is in
+        (option_or (option_map (λ e. UnknownEnd e) (position (has_unknown_end look) edges)) (bad_point_from 0 edges)) is in
         let bad = (neither (option_map (λ e. UnknownEnd e) (position (has_unknown_end look) edges)) (bad_point_from 0 edges) rest.1).1 in
         same_edge_faults (position lacks_end (moved_edges where_is span_at 0 edges)) (position lacks_end edges)
-            (position (has_unknown_end look) (moved_edges where_is span_at 0 edges)) (position (has_unknown_end look) edges)
-            (bad_point_from 0 (moved_edges where_is span_at 0 edges)) (bad_point_from 0 edges)
-            lacks unknown (no_bad_point 0 0 edges (edges_have_points 0 edges bad) ∙ sym bad)
+        (position (has_unknown_end look) (moved_edges where_is span_at 0 edges)) (position (has_unknown_end look) edges)
+        (bad_point_from 0 (moved_edges where_is span_at 0 edges)) (bad_point_from 0 edges)
+        lacks unknown (no_bad_point 0 0 edges (edges_have_points 0 edges bad) ∙ sym bad)
         ∙ is

@@ -1,27 +1,24 @@
 -- Graphs whose vertices stand at other places: their plan and their edges by vertices stay, where no piece has no length.
-use Rattle.std.proofs.Common.{◌≡◌, ℕ, zero, suc, ◌+◌, ◌-◌, ◌<◌, ◌≤◌, arith, ℤ, pos, Bool, true, false, not, cond, List, [], ◌∷◌, ◌++◌, length, map, take, drop, Option, None, Some, Result, Ok, Err, refl, sym, ap, ◌∙◌, nat_lt, append-nil, append_assoc, add_assoc, add-zero, zero-add, slice_index_or, length-append, length-take, add-one}
-use Rattle.std.specs.Prelude.{is_none, slice_get, unwrap_or, if◌then◌else◌, option_and_then}
-use Rattle.std.specs.List.{position, range_with_len, flat_map}
+use Rattle.std.proofs.Common.{◌≡◌, ℕ, zero, suc, ◌+◌, ◌-◌, ◌<◌, ◌≤◌, arith, ℤ, Bool, true, false, cond, List, [], ◌∷◌, ◌++◌, length, map, take, drop, Option, None, Some, Ok, refl, sym, ap, ◌∙◌, nat_lt, append-nil, add-zero, zero-add, length-append, length-take, add-one}
+use Rattle.std.specs.Prelude.{is_none, slice_get}
+use Rattle.std.specs.List.{range_with_len}
 use Rattle.std.specs.Option.{option_map}
 use Rattle.std.specs.Ordering.{int_eq}
 use Rattle.std.proofs.lemmas.Bool.{and_parts}
 use Rattle.std.proofs.lemmas.Bool.Decides.{nat_tests, Decides-int_eq}
-use Rattle.std.proofs.lemmas.List.{length-map, map-append, take-append-le}
+use Rattle.std.proofs.lemmas.List.{map-append}
 use Rattle.std.proofs.Math.Seq.{take-append_seam}
 use Rattle.compact_types.specs.declared.places.Point.{Point}
 use Rattle.compact_types.specs.declared.plan.Piece.{Piece}
-use Rattle.compact_types.specs.Lookups.{origin, place}
-use Rattle.drawing_read.specs.declared.written.Number.{Number}
+use Rattle.compact_types.specs.Lookups.{place}
 use Rattle.drawing_read.specs.declared.written.Numbers.{Numbers}
-use Rattle.drawing_read.specs.declared.written.WholeNumber.{WholeNumber}
 use Rattle.drawing_read.specs.declared.written.Node.{Node}
 use Rattle.drawing_read.specs.declared.written.Edge.{Edge}
-use Rattle.drawing_read.specs.declared.written.Graph.{Graph}
 use Rattle.drawing_read.specs.declared.route.Route.{Route}
 use Rattle.drawing_read.specs.declared.route.Span.{Span}
-use Rattle.drawing_read.specs.Routes.{point_of, node_points, route_of, same_point, begins_at, ends_at, after_first_at, before_last_at, bends_of, points_at_source, span_of, spans_from, chain, span_pieces, pieces_of, node_with}
-use Rattle.drawing_read.specs.Spots.{point_vertex, no_span}
-use Rattle.gml_print.proofs.ListFacts.{range_append, length_range}
+use Rattle.drawing_read.specs.Routes.{point_of, node_points, same_point, begins_at, ends_at, after_first_at, before_last_at, bends_of, chain}
+use Rattle.drawing_read.specs.Spots.{point_vertex}
+use Rattle.gml_print.proofs.ListFacts.{range_append}
 
 -- each of the nodes has a place
 abbrev pub HavePlaces : List Node → Type 0
@@ -182,7 +179,7 @@ module _ (where_is : ℕ → Point) where
   before_last false source first zero target apart = refl
   before_last false source first (suc n) target apart =
       before_no_last target (range_with_len first (suc n))
-          (not_at_end target (first + n) (range_with_len first (suc n)) (range_with_len first n) (range_push first n) (last_apart source first n target apart))
+      (not_at_end target (first + n) (range_with_len first (suc n)) (range_with_len first n) (range_push first n) (last_apart source first n target apart))
 
   -- the vertices of an edge's points stand apart as its pieces do: so its new points have the same bends
   module _ (nodes : List Point) (route : Route)
@@ -198,7 +195,7 @@ module _ (where_is : ℕ → Point) where
     new_bends s t first n apart points =
         rw (source, target, points)
         (ap (before_last_at (where_is route.target))
-            (after_first s route.source (range_with_len first n ++ only_if t route.target) (begins s t route.source first n route.target apart))
+        (after_first s route.source (range_with_len first n ++ only_if t route.target) (begins s t route.source first n route.target apart))
         ∙ before_last t route.source first n route.target apart)
 
   abbrev pub moved_numbers : ℕ → Numbers → Numbers

@@ -1,25 +1,22 @@
 -- The reading of a graph whose vertices were moved: the same edges by their vertices, and the new places.
-use Rattle.std.proofs.Common.{◌≡◌, ℕ, zero, suc, ◌+◌, ◌-◌, ◌<◌, ◌≤◌, arith, ℤ, pos, Bool, true, false, cond, List, [], ◌∷◌, ◌++◌, length, map, Option, None, Some, refl, sym, ap, ◌∙◌, subst, nat_lt, zero-add, slice_index_or}
-use Rattle.std.specs.Prelude.{unwrap_or, is_none, if◌then◌else◌}
-use Rattle.std.specs.List.{position, filter_map, flat_map, range_with_len, find}
+use Rattle.std.proofs.Common.{◌≡◌, ℕ, ◌+◌, ◌<◌, arith, ℤ, List, [], ◌∷◌, ◌++◌, length, map, Option, None, Some, refl, sym, ap, ◌∙◌, zero-add, slice_index_or}
+use Rattle.std.specs.Prelude.{unwrap_or, is_none}
+use Rattle.std.specs.List.{position, filter_map, flat_map, range_with_len}
 use Rattle.std.specs.Option.{option_map, option_or}
-use Rattle.std.proofs.lemmas.Bool.Decides.{nat_tests}
 use Rattle.std.proofs.lemmas.List.{length-map, map-append, length-append}
 use Rattle.std.proofs.lemmas.List.FromFn.{get_or-map-range_with_len}
 use Rattle.compact_types.specs.declared.places.Point.{Point}
 use Rattle.compact_types.specs.Lookups.{origin, place}
 use Rattle.drawing_read.specs.declared.written.WholeNumber.{WholeNumber}
 use Rattle.drawing_read.specs.declared.written.Number.{Number}
-use Rattle.drawing_read.specs.declared.written.RefusedNumber.{RefusedNumber}
 use Rattle.drawing_read.specs.declared.written.Node.{Node}
 use Rattle.drawing_read.specs.declared.written.Edge.{Edge}
 use Rattle.drawing_read.specs.declared.written.Graph.{Graph}
 use Rattle.drawing_read.specs.declared.fault.DrawFault.{DrawFault}
-use Rattle.drawing_read.specs.declared.fault.DrawFault.TheVariants.{Empty, NoId, BadId, RepeatedId, NoPlace, BadNumber, NoEnd, UnknownEnd}
-use Rattle.drawing_read.specs.declared.route.Span.{Span}
-use Rattle.drawing_read.specs.Routes.{ids_of, number_of_id, node_with, node_points, point_of, route_of, routes_by, bends_of, spans_from, points_by, spans_by, pieces_of, points_in, spans_in, pieces_in}
+use Rattle.drawing_read.specs.declared.fault.DrawFault.TheVariants.{RepeatedId, NoPlace, BadNumber, NoEnd, UnknownEnd}
+use Rattle.drawing_read.specs.Routes.{ids_of, number_of_id, node_with, node_points, routes_by, bends_of, spans_from, points_by, spans_by, pieces_of, points_in, spans_in, pieces_in}
 use Rattle.drawing_read.specs.Spots.{no_span}
-use Rattle.drawing_read.specs.DrawFaults.{is_absent, is_unfit, id_fault, repeated_fault, place_fault, edge_fault, size_fault, graph_fault, first_repeated, numbers_of, first_refused, refused_in, lacks_end, has_unknown_end, bad_point_from}
+use Rattle.drawing_read.specs.DrawFaults.{id_fault, repeated_fault, place_fault, edge_fault, size_fault, graph_fault, first_repeated, numbers_of, first_refused, refused_in, lacks_end, has_unknown_end, bad_point_from}
 use Rattle.gml_print.proofs.ListFacts.{neither, both_none, range_append, length_range}
 use Rattle.gml_print.proofs.MovedGraphs.{HavePlaces, EdgesHavePoints, Apart, moved_nodes, moved_edges, moved_node_points}
 use Rattle.gml_print.proofs.MovedEdges.{KeepTheirVertices, edges_moved}
@@ -54,7 +51,7 @@ faultless_parts graph is =
     let c = neither (place_fault graph) (edge_and_size graph) b.1 in
     let d = neither (edge_fault (number_of_id (ids_of graph.nodes)) graph.edges) (size_fault (length (points_in graph)) (length (pieces_in graph))) c.1 in
     let e = neither (option_map (λ n. NoPlace n) (position (λ node. is_none node.place) graph.nodes))
-        (option_map (λ number. BadNumber number.at number.cause) (first_refused (numbers_of graph))) c.0 in
+    (option_map (λ number. BadNumber number.at number.cause) (first_refused (numbers_of graph))) c.0 in
     record {
       nodes = a.0;
       repeated = b.0;
@@ -66,7 +63,7 @@ faultless_parts graph is =
 points_there : (look : ℤ → Option ℕ) (edges : List Edge) → edge_fault look edges ≡ None → EdgesHavePoints edges
 points_there look edges is =
     let rest = neither (option_map (λ e. NoEnd e) (position lacks_end edges))
-        (option_or (option_map (λ e. UnknownEnd e) (position (has_unknown_end look) edges)) (bad_point_from 0 edges)) is in
+    (option_or (option_map (λ e. UnknownEnd e) (position (has_unknown_end look) edges)) (bad_point_from 0 edges)) is in
     let bad = neither (option_map (λ e. UnknownEnd e) (position (has_unknown_end look) edges)) (bad_point_from 0 edges) rest.1 in
     edges_have_points 0 edges bad.1
 
@@ -168,11 +165,11 @@ module _ (where_is : ℕ → Point) (graph : Graph) (faultless : graph_fault gra
   no_place_fault : place_fault (moved_graph where_is graph) ≡ None
   no_place_fault =
       both_none (option_map (λ n. NoPlace n) (position (λ node. is_none node.place) (moved_nodes where_is 0 graph.nodes)))
-          (option_map (λ number. BadNumber number.at number.cause) (first_refused (numbers_of (moved_graph where_is graph))))
-          (ap (option_map (λ n. NoPlace n)) (places_moved where_is 0 graph.nodes (have_places graph.nodes (faultless_parts graph faultless).places)))
-          (ap (option_map (λ number. BadNumber number.at number.cause))
-              (no_numbers (numbers_of (moved_graph where_is graph))
-                  (numbers_fit where_is (λ e. slice_index_or (spans_in graph) e no_span) 0 0 graph.nodes graph.edges)))
+      (option_map (λ number. BadNumber number.at number.cause) (first_refused (numbers_of (moved_graph where_is graph))))
+      (ap (option_map (λ n. NoPlace n)) (places_moved where_is 0 graph.nodes (have_places graph.nodes (faultless_parts graph faultless).places)))
+      (ap (option_map (λ number. BadNumber number.at number.cause))
+      (no_numbers (numbers_of (moved_graph where_is graph))
+      (numbers_fit where_is (λ e. slice_index_or (spans_in graph) e no_span) 0 0 graph.nodes graph.edges)))
 
   -- the moved graph has no fault
   pub faultless_moved : graph_fault (moved_graph where_is graph) ≡ None
@@ -180,8 +177,8 @@ module _ (where_is : ℕ → Point) (graph : Graph) (faultless : graph_fault gra
   faultless_moved =
       let moved = moved_graph where_is graph in
       both_none (id_fault moved.nodes) (option_or (repeated_fault moved.nodes) (place_and_more moved))
-          (id_fault_moved where_is 0 graph.nodes ∙ (faultless_parts graph faultless).nodes)
-          (both_none (repeated_fault moved.nodes) (place_and_more moved) same_repeated
-              (both_none (place_fault moved) (edge_and_size moved) no_place_fault
-                  (both_none (edge_fault (number_of_id (ids_of moved.nodes)) moved.edges) (size_fault (length (points_in moved)) (length (pieces_in moved)))
-                      same_edge_fault same_sizes)))
+      (id_fault_moved where_is 0 graph.nodes ∙ (faultless_parts graph faultless).nodes)
+      (both_none (repeated_fault moved.nodes) (place_and_more moved) same_repeated
+      (both_none (place_fault moved) (edge_and_size moved) no_place_fault
+      (both_none (edge_fault (number_of_id (ids_of moved.nodes)) moved.edges) (size_fault (length (points_in moved)) (length (pieces_in moved)))
+      same_edge_fault same_sizes)))

@@ -1,5 +1,5 @@
 -- The numbers that are written for places.
-use Rattle.std.proofs.Common.{◌≡◌, ℕ, ℤ, pos, negsuc, ◌*◌, ◌<◌, ◌≤◌, ◌⊎◌, inl, inr, length, arith, w64, lit<, refl, slice_index_or, Bool, true, cond, List, [], ◌∷◌, ◌++◌, None, Some, Ok, Err, ◌+ℤ◌, nat_le, decimal, append-nil, sym, ap, ◌∙◌}
+use Rattle.std.proofs.Common.{◌≡◌, ℕ, ℤ, pos, negsuc, ◌*◌, ◌<◌, ◌≤◌, ◌⊎◌, inl, inr, length, arith, w64, lit<, refl, Bool, true, cond, [], ◌++◌, None, Ok, Err, ◌+ℤ◌, nat_le, decimal, append-nil, sym, ap, ◌∙◌}
 use Rattle.std.specs.Prelude.{◌*ℤ◌, ◌≤ℤ◌, unsigned_abs}
 use Rattle.std.specs.Int.RustNames.{FitsSigned}
 use Rattle.std.proofs.lemmas.Int.{ints, fits_signed_mul}
@@ -9,12 +9,11 @@ use Rattle.std.proofs.Math.Nat.{mul-le-mul, le_of_mul-le-mul_left}
 use Rattle.std.proofs.lemmas.Bool.Decides.{nat_tests}
 use Rattle.compact_types.specs.declared.places.Axis.{Axis}
 use Rattle.compact_types.specs.declared.places.Axis.TheVariants.{X, Y}
-use Rattle.compact_types.specs.declared.places.Point.{Point}
 use Rattle.compact_types.specs.declared.places.Places.{Places}
 use Rattle.compact_types.specs.Lookups.{place, along, origin}
 use Rattle.drawing_read.specs.declared.reading.Spot.{Spot}
 use Rattle.gml_text.specs.declared.number.NumberFault.TheVariants.{OutOfRange}
-use Rattle.gml_text.specs.Numerals.{no_sign, Numeral, IsNumeral, HasParts, digits_value, mantissa, power_of_ten, most_thousandths}
+use Rattle.gml_text.specs.Numerals.{no_sign, Numeral, IsNumeral, digits_value, mantissa, power_of_ten, most_thousandths}
 use Rattle.gml_text.specs.NumeralKinds.{parts_of}
 use Rattle.gml_text.proofs.NumeralParts.{parts_of-is}
 use Rattle.drawing_read.specs.Thousandths.{times_ten, within_range, thousandths_of}

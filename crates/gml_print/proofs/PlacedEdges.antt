@@ -1,5 +1,5 @@
 -- Edges after the numerals of their spots were put.
-use Rattle.std.proofs.Common.{◌≡◌, ℕ, zero, suc, ◌+◌, ◌⊎◌, inl, inr, arith, ℤ, pos, Bool, true, false, cond, List, [], ◌∷◌, ◌++◌, length, map, Option, None, Some, Result, Ok, Err, refl, sym, ap, ◌∙◌, subst, append_assoc, slice_index_or, length-append}
+use Rattle.std.proofs.Common.{◌≡◌, ℕ, ◌+◌, arith, pos, Bool, true, false, cond, List, [], ◌∷◌, ◌++◌, length, map, Option, None, Some, Ok, refl, sym, ap, ◌∙◌, append_assoc, length-append}
 use Rattle.std.specs.Option.{option_map, option_map_or}
 use Rattle.std.specs.List.{filter_map, cons_option}
 use Rattle.std.specs.Prelude.{codes, option_and_then, is_none, unwrap_or, ◌*ℤ◌}
@@ -15,13 +15,13 @@ use Rattle.drawing_read.specs.declared.written.Numbers.{Numbers}
 use Rattle.drawing_read.specs.declared.written.Edge.{Edge}
 use Rattle.drawing_read.specs.declared.written.WholeNumber.{WholeNumber}
 use Rattle.drawing_read.specs.declared.written.WholeNumber.TheVariants.{Absent}
-use Rattle.drawing_read.specs.Lookups.{has_key, list_in, first_under, first_list}
+use Rattle.drawing_read.specs.Lookups.{has_key, list_in, first_list}
 use Rattle.drawing_read.specs.Thousandths.{thousandths_of}
 use Rattle.drawing_read.specs.WrittenGraphs.{numbers_in, whole_in, whole_under, point_in, line_of, edge_of}
 use Rattle.drawing_read.specs.Spots.{point_vertex, point_spots, edge_spots}
 use Rattle.gml_print.specs.Numbers.{number_text}
 use Rattle.gml_print.specs.Placing.{with_changed_value}
-use Rattle.gml_print.proofs.Changes.{changed_at, changed_behind, apart_words}
+use Rattle.gml_print.proofs.Changes.{changed_behind, apart_words}
 use Rattle.gml_print.proofs.Puts.{behind, puts, replaced_by, puts_append, puts_behind}
 use Rattle.gml_print.proofs.MovedGraphs.{HavePoints, moved_numbers, moved_points, moved_edge}
 use Rattle.gml_print.proofs.SpotPaths.{value_spots, value_relative, points_relative, points_lead, line_spots, line_relative, line_leads}

@@ -1,5 +1,5 @@
 -- The list of a graph after the numerals of its spots were put.
-use Rattle.std.proofs.Common.{◌≡◌, ℕ, zero, suc, ◌+◌, ◌⊎◌, inl, inr, arith, ℤ, pos, Bool, true, false, cond, List, [], ◌∷◌, ◌++◌, length, map, Option, None, Some, Result, Ok, Err, refl, sym, ap, ◌∙◌, subst, append_assoc, append-nil, slice_index_or}
+use Rattle.std.proofs.Common.{◌≡◌, ℕ, suc, ◌+◌, pos, Bool, true, false, cond, List, [], ◌∷◌, ◌++◌, length, Option, None, Some, Ok, refl, ap, ◌∙◌, append-nil, slice_index_or}
 use Rattle.std.specs.Option.{option_map, option_map_or}
 use Rattle.std.specs.List.{filter_map, cons_option, position}
 use Rattle.std.specs.Prelude.{codes, is_some, ◌*ℤ◌}
@@ -9,20 +9,16 @@ use Rattle.compact_types.specs.declared.places.Places.{Places}
 use Rattle.compact_types.specs.Lookups.{place, along}
 use Rattle.gml_text.specs.declared.tree.Pair.{Pair}
 use Rattle.gml_text.specs.declared.tree.Value.{Value}
-use Rattle.drawing_read.specs.declared.reading.Spot.{Spot}
 use Rattle.drawing_read.specs.declared.route.Span.{Span}
-use Rattle.drawing_read.specs.declared.written.Node.{Node}
-use Rattle.drawing_read.specs.declared.written.Edge.{Edge}
-use Rattle.drawing_read.specs.declared.written.Graph.{Graph}
 use Rattle.drawing_read.specs.Lookups.{has_key, list_in, list_under, lists_under}
 use Rattle.drawing_read.specs.Thousandths.{thousandths_of}
-use Rattle.drawing_read.specs.WrittenGraphs.{node_of, node_in, edge_of, edge_in, graph_of}
+use Rattle.drawing_read.specs.WrittenGraphs.{node_of, node_in, edge_of, edge_in}
 use Rattle.drawing_read.specs.Spots.{node_spots, edge_spots, no_span, pair_spots, counted, graph_spots}
 use Rattle.gml_print.specs.Numbers.{number_text}
 use Rattle.gml_print.specs.Placing.{with_changed_value}
 use Rattle.gml_print.proofs.ListFacts.{position_here, position_later}
 use Rattle.gml_print.proofs.Changes.{changed_at, apart_words}
-use Rattle.gml_print.proofs.Puts.{behind, puts, replaced_by, replaced_by_list}
+use Rattle.gml_print.proofs.Puts.{puts, replaced_by, replaced_by_list}
 use Rattle.gml_print.proofs.MovedGraphs.{HavePlaces, EdgesHavePoints, moved_nodes, moved_edges}
 use Rattle.gml_print.proofs.SpotPaths.{pair_relative, pair_leads}
 use Rattle.gml_print.proofs.PlacedNodes.{placed_node, node_placed, same_node_spots}
@@ -46,7 +42,7 @@ module _ (places : Places) (pitch : ℕ) (spans : List Span) where
       let f = counted e (list_under (codes "edge") pair) in
       ap (λ spots. puts places pitch (spots ++ graph_spots [] spans (at + 1) m f pairs) (front ++ pair ∷ pairs)) (pair_relative spans n e pair (at ∷ []))
       ∙ then_put places pitch front at (pair_spots [] spans n e pair) (graph_spots [] spans (at + 1) m f pairs) pair pairs (placed_graph m f) long
-          (λ front long. graph_put_from (at + 1) m f pairs front long)
+      (λ front long. graph_put_from (at + 1) m f pairs front long)
 
   pub graph_put : (pairs : List Pair) → puts places pitch (graph_spots [] spans 0 0 0 pairs) pairs ≡ placed_graph 0 0 pairs
   graph_put pairs = graph_put_from 0 0 0 pairs [] refl
@@ -99,10 +95,10 @@ module _ (places : Places) (pitch : ℕ) (spans : List Span) where
   same_pair_spots path n e pair =
       let span = slice_index_or spans e no_span in
       let node : option_map_or (λ list. node_spots path n list) (list_under (codes "node") (placed_pair n e pair)) [] ≡
-          option_map_or (λ list. node_spots path n list) (list_under (codes "node") pair) [] =
+      option_map_or (λ list. node_spots path n list) (list_under (codes "node") pair) [] =
       ap (λ (o : Option (List Pair)). option_map_or (λ list. node_spots path n list) o []) (node_list n e pair) ∙ same_node_pair path n (list_under (codes "node") pair) in
       let edge : option_map_or (λ list. edge_spots path span list) (list_under (codes "edge") (placed_pair n e pair)) [] ≡
-          option_map_or (λ list. edge_spots path span list) (list_under (codes "edge") pair) [] =
+      option_map_or (λ list. edge_spots path span list) (list_under (codes "edge") pair) [] =
       ap (λ (o : Option (List Pair)). option_map_or (λ list. edge_spots path span list) o []) (edge_list n e pair) ∙ same_edge_pair path span (list_under (codes "edge") pair) in
       ap (λ spots. spots ++ option_map_or (λ list. edge_spots path span list) (list_under (codes "edge") (placed_pair n e pair)) []) node
       ∙ ap (λ spots. option_map_or (λ list. node_spots path n list) (list_under (codes "node") pair) [] ++ spots) edge
@@ -123,7 +119,7 @@ module _ (places : Places) (pitch : ℕ) (spans : List Span) where
       ap (counted e) (edge_list n e pair) ∙ same_counted e (placed_edge places pitch (slice_index_or spans e no_span)) (list_under (codes "edge") pair) in
       let rest = placed_graph m f pairs in
       ap (λ spots. spots ++ graph_spots path spans (at + 1) (counted n (list_under (codes "node") (placed_pair n e pair))) (counted e (list_under (codes "edge") (placed_pair n e pair))) rest)
-          (same_pair_spots (path ++ at ∷ []) n e pair)
+      (same_pair_spots (path ++ at ∷ []) n e pair)
       ∙ ap (λ (k : ℕ). pair_spots (path ++ at ∷ []) spans n e pair ++ graph_spots path spans (at + 1) k (counted e (list_under (codes "edge") (placed_pair n e pair))) rest) nodes
       ∙ ap (λ (k : ℕ). pair_spots (path ++ at ∷ []) spans n e pair ++ graph_spots path spans (at + 1) m k rest) edges
       ∙ ap (λ spots. pair_spots (path ++ at ∷ []) spans n e pair ++ spots) (same_graph_spots path (at + 1) m f pairs)
@@ -138,14 +134,14 @@ module _ (places : Places) (pitch : ℕ) (where_is : ℕ → Point)
   nodes_placed n e (pair ∷ pairs) have =
       let f = counted e (list_under (codes "edge") pair) in
       ap (λ (o : Option (List Pair)). cons_option (option_map node_of o) (filter_map node_in (placed_graph places pitch spans (counted n (list_under (codes "node") pair)) f pairs)))
-          (node_list places pitch spans n e pair)
+      (node_list places pitch spans n e pair)
       ∙ by_list (list_under (codes "node") pair) have (λ m have. nodes_placed m f pairs have)
     where
       by_list : (o : Option (List Pair)) → HavePlaces (cons_option (option_map node_of o) (filter_map node_in pairs)) →
           ((m : ℕ) → HavePlaces (filter_map node_in pairs) →
-              filter_map node_in (placed_graph places pitch spans m (counted e (list_under (codes "edge") pair)) pairs) ≡ moved_nodes where_is m (filter_map node_in pairs)) →
+          filter_map node_in (placed_graph places pitch spans m (counted e (list_under (codes "edge") pair)) pairs) ≡ moved_nodes where_is m (filter_map node_in pairs)) →
           cons_option (option_map node_of (option_map (placed_node places pitch n) o))
-              (filter_map node_in (placed_graph places pitch spans (counted n o) (counted e (list_under (codes "edge") pair)) pairs)) ≡
+          (filter_map node_in (placed_graph places pitch spans (counted n o) (counted e (list_under (codes "edge") pair)) pairs)) ≡
           moved_nodes where_is n (cons_option (option_map node_of o) (filter_map node_in pairs))
       by_list None have rest = rest n have
       by_list (Some list) have rest = rw (node_placed places pitch where_is tells n list (have.0), rest (n + 1) (have.1)) refl
@@ -156,15 +152,15 @@ module _ (places : Places) (pitch : ℕ) (where_is : ℕ → Point)
   edges_placed n e (pair ∷ pairs) have =
       let m = counted n (list_under (codes "node") pair) in
       ap (λ (o : Option (List Pair)). cons_option (option_map edge_of o) (filter_map edge_in (placed_graph places pitch spans m (counted e (list_under (codes "edge") pair)) pairs)))
-          (edge_list places pitch spans n e pair)
+      (edge_list places pitch spans n e pair)
       ∙ by_list (list_under (codes "edge") pair) have (λ f have. edges_placed m f pairs have)
     where
       by_list : (o : Option (List Pair)) → EdgesHavePoints (cons_option (option_map edge_of o) (filter_map edge_in pairs)) →
           ((f : ℕ) → EdgesHavePoints (filter_map edge_in pairs) →
-              filter_map edge_in (placed_graph places pitch spans (counted n (list_under (codes "node") pair)) f pairs) ≡
-              moved_edges where_is (λ e. slice_index_or spans e no_span) f (filter_map edge_in pairs)) →
+          filter_map edge_in (placed_graph places pitch spans (counted n (list_under (codes "node") pair)) f pairs) ≡
+          moved_edges where_is (λ e. slice_index_or spans e no_span) f (filter_map edge_in pairs)) →
           cons_option (option_map edge_of (option_map (placed_edge places pitch (slice_index_or spans e no_span)) o))
-              (filter_map edge_in (placed_graph places pitch spans (counted n (list_under (codes "node") pair)) (counted e o) pairs)) ≡
+          (filter_map edge_in (placed_graph places pitch spans (counted n (list_under (codes "node") pair)) (counted e o) pairs)) ≡
           moved_edges where_is (λ e. slice_index_or spans e no_span) e (cons_option (option_map edge_of o) (filter_map edge_in pairs))
       by_list None have rest = rest e have
       by_list (Some list) have rest = rw (edge_placed places pitch where_is tells (slice_index_or spans e no_span) list (have.0), rest (e + 1) (have.1)) refl
@@ -187,18 +183,22 @@ module _ (key : List ℕ) (f : Value → Value) (change : List Pair → List Pai
       by_list : (o : Option (List Pair)) → list_under key pair ≡ o → cons_option o (lists_under key pairs) ≡ list ∷ [] →
           (lists_under key pairs ≡ list ∷ [] → (a : ℕ) × IsOnlyList pairs list a) → (a : ℕ) × IsOnlyList (pair ∷ pairs) list a
       by_list None none is rest =
-          let later = rest is in
-          (suc later.0, record {
-            place = position_later (λ pair. is_some (list_under key pair)) pair pairs later.0 (ap is_some none) later.1.place;
-            new_place = position_later (λ pair. is_some (list_under key pair)) pair (changed_at later.0 f pairs) later.0 (ap is_some none) later.1.new_place;
-            new_lists = ap (λ (o : Option (List Pair)). cons_option o (lists_under key (changed_at later.0 f pairs))) none ∙ later.1.new_lists;
-          })
+          let later = rest is in (
+            suc later.0,
+            record {
+              place = position_later (λ pair. is_some (list_under key pair)) pair pairs later.0 (ap is_some none) later.1.place;
+              new_place = position_later (λ pair. is_some (list_under key pair)) pair (changed_at later.0 f pairs) later.0 (ap is_some none) later.1.new_place;
+              new_lists = ap (λ (o : Option (List Pair)). cons_option o (lists_under key (changed_at later.0 f pairs))) none ∙ later.1.new_lists;
+            },
+          )
       by_list (Some found) some is rest =
           let same = same_first (lists_under key pairs) [] found list is in
           let new : list_under key (with_changed_value f pair) ≡ Some (change list) =
-          fits pair ∙ ap (option_map change) some ∙ ap (λ (l : List Pair). Some (change l)) same.0 in
-          (0, record {
-            place = position_here (λ pair. is_some (list_under key pair)) pair pairs (ap is_some some);
-            new_place = position_here (λ pair. is_some (list_under key pair)) (with_changed_value f pair) pairs (ap is_some new);
-            new_lists = ap (λ (o : Option (List Pair)). cons_option o (lists_under key pairs)) new ∙ ap (λ lists. change list ∷ lists) same.1;
-          })
+          fits pair ∙ ap (option_map change) some ∙ ap (λ (l : List Pair). Some (change l)) same.0 in (
+            0,
+            record {
+              place = position_here (λ pair. is_some (list_under key pair)) pair pairs (ap is_some some);
+              new_place = position_here (λ pair. is_some (list_under key pair)) (with_changed_value f pair) pairs (ap is_some new);
+              new_lists = ap (λ (o : Option (List Pair)). cons_option o (lists_under key pairs)) new ∙ ap (λ lists. change list ∷ lists) same.1;
+            },
+          )

@@ -1,9 +1,7 @@
 -- Lists of pairs after the numerals of their spots were put: their keys, and what stands under a key.
-use Rattle.std.proofs.Common.{◌≡◌, ℕ, zero, suc, ◌+◌, ◌<◌, ◌⊎◌, inl, inr, arith, Bool, true, false, not, cond, List, [], ◌∷◌, ◌++◌, length, map, Option, None, Some, refl, sym, ap, ◌∙◌, append_assoc, nat_lt, append-nil, slice_index_or, subst}
-use Rattle.std.specs.Option.{option_map, option_map_or}
-use Rattle.std.specs.List.{position, find}
+use Rattle.std.proofs.Common.{◌≡◌, ℕ, ◌⊎◌, inl, inr, Bool, true, false, cond, List, [], ◌∷◌, Option, None, Some, refl, sym, ap, ◌∙◌, nat_lt, subst}
+use Rattle.std.specs.Option.{option_map}
 use Rattle.std.specs.Prelude.{codes, option_and_then}
-use Rattle.compact_types.specs.declared.places.Axis.{Axis}
 use Rattle.compact_types.specs.declared.places.Axis.TheVariants.{X, Y}
 use Rattle.compact_types.specs.declared.places.Places.{Places}
 use Rattle.gml_text.specs.declared.tree.Pair.{Pair}
@@ -13,9 +11,9 @@ use Rattle.drawing_read.specs.Lookups.{has_key, list_in, first_under, first_list
 use Rattle.drawing_read.specs.Spots.{spot, coordinate_spots, inside, in_order}
 use Rattle.gml_print.specs.Placing.{with_changed_value, change_at}
 use Rattle.gml_print.specs.Places.{numeral_for}
-use Rattle.gml_print.proofs.Changes.{changed_at, change_at_is, change_first, changed_is_first, keys_of, same_keys, same_places, first_changed, first_of_other, AreApart, apart_words}
+use Rattle.gml_print.proofs.Changes.{change_at_is, change_first, changed_is_first, keys_of, same_keys, same_places, first_changed, first_of_other, AreApart, apart_words}
 use Rattle.gml_print.proofs.ListFacts.{find_position}
-use Rattle.gml_print.proofs.Puts.{behind, LeadIn, puts, replaced_by, puts_behind, replaced_by_list}
+use Rattle.gml_print.proofs.Puts.{LeadIn, puts, replaced_by, puts_behind, replaced_by_list}
 use Rattle.gml_print.proofs.SpotPaths.{IsRelative}
 
 -- where the pair that counts stands, if there is one

@@ -1,5 +1,5 @@
 -- Nodes and points after the numerals of their spots were put.
-use Rattle.std.proofs.Common.{◌≡◌, ℕ, zero, suc, ◌+◌, ◌⊎◌, inl, inr, ℤ, pos, Bool, true, false, cond, List, [], ◌∷◌, ◌++◌, length, map, Option, None, Some, Result, Ok, Err, refl, sym, ap, ◌∙◌, subst, slice_index_or}
+use Rattle.std.proofs.Common.{◌≡◌, ℕ, ◌⊎◌, inl, inr, ℤ, pos, false, List, [], ◌∷◌, ◌++◌, Option, None, Some, Result, Ok, refl, sym, ap, ◌∙◌}
 use Rattle.std.specs.Option.{option_map, option_map_or}
 use Rattle.std.specs.Prelude.{codes, option_and_then, is_none, ◌*ℤ◌}
 use Rattle.std.proofs.lemmas.Option.{same_Some}
@@ -17,7 +17,7 @@ use Rattle.drawing_read.specs.declared.written.Numbers.{Numbers}
 use Rattle.drawing_read.specs.declared.written.Node.{Node}
 use Rattle.drawing_read.specs.declared.written.WholeNumber.{WholeNumber}
 use Rattle.drawing_read.specs.declared.written.WholeNumber.TheVariants.{Absent}
-use Rattle.drawing_read.specs.Lookups.{has_key, list_in, first_under, first_list, place_under}
+use Rattle.drawing_read.specs.Lookups.{list_in, first_under, first_list, place_under}
 use Rattle.drawing_read.specs.Thousandths.{thousandths_of}
 use Rattle.drawing_read.specs.WrittenGraphs.{numeral_in, number_of, number_under, numbers_in, whole_in, whole_under, node_of}
 use Rattle.drawing_read.specs.Spots.{spot, coordinate_spots, inside, node_spots}
@@ -28,7 +28,7 @@ use Rattle.gml_print.proofs.Changes.{same_places, apart_words}
 use Rattle.gml_print.proofs.Puts.{puts, replaced_by, replaced_by_list}
 use Rattle.gml_print.proofs.MovedGraphs.{moved_numbers, moved_node}
 use Rattle.gml_print.proofs.SpotPaths.{coordinates_relative, coordinates_lead, value_spots, value_lead}
-use Rattle.gml_print.proofs.PlacedLists.{IsFirst, in_place, HasNumerals, numerals_put, same_coordinates, IsPutInside, put_list, put_inside}
+use Rattle.gml_print.proofs.PlacedLists.{IsFirst, in_place, numerals_put, same_coordinates, IsPutInside, put_inside}
 
 two_some : (a b : Option Number) (numbers : Numbers) →
     option_and_then (λ x. option_map (λ (y : Number). let both : Numbers = record { x = x; y = y } in both) b) a ≡ Some numbers → (a ≡ Some numbers.x) × (b ≡ Some numbers.y)
@@ -166,6 +166,6 @@ module _ (places : Places) (pitch : ℕ) (where_is : ℕ → Point)
   node_placed n pairs have =
       let put = node_put places pitch n pairs in
       ap (λ (o : Option Pair). made_node (option_map_or (λ (pair : Pair). whole_in pair.value) o Absent) (node_of (placed_node places pitch n pairs)).place)
-          (put.others (codes "id") (apart_words (codes "graphics") (codes "id") refl))
+      (put.others (codes "id") (apart_words (codes "graphics") (codes "id") refl))
       ∙ ap (made_node (whole_under (codes "id") pairs))
-          (ap (option_and_then numbers_in) put.list ∙ place_placed n (first_list (codes "graphics") pairs) have)
+      (ap (option_and_then numbers_in) put.list ∙ place_placed n (first_list (codes "graphics") pairs) have)

@@ -1,12 +1,11 @@
 -- The tree with new places has the reading with these places.
-use Rattle.std.proofs.Common.{◌≡◌, ℕ, zero, suc, ◌+◌, ◌*◌, ◌<◌, ◌≤◌, arith, ℤ, pos, Bool, true, false, cond, List, [], ◌∷◌, ◌++◌, length, map, Option, None, Some, Result, Ok, Err, refl, sym, ap, ◌∙◌, subst, slice_index_or, get_or}
+use Rattle.std.proofs.Common.{◌≡◌, ℕ, suc, ◌*◌, ◌<◌, ◌≤◌, arith, Bool, true, false, cond, List, [], ◌∷◌, length, map, Option, None, refl, sym, ap, ◌∙◌, subst}
 use Rattle.std.specs.Option.{option_map}
 use Rattle.std.specs.List.{filter_map, position, range_with_len}
-use Rattle.std.specs.Prelude.{codes, is_some, is_none, unwrap_or, ◌*ℤ◌, ◌<ℤ◌}
+use Rattle.std.specs.Prelude.{codes, is_some, unwrap_or}
 use Rattle.std.proofs.lemmas.Int.{ints}
 use Rattle.std.proofs.lemmas.List.{length-map, get_or-map}
 use Rattle.std.proofs.lemmas.List.FromFn.{fill_by_all}
-use Rattle.compact_types.specs.declared.places.Axis.{Axis}
 use Rattle.compact_types.specs.declared.places.Axis.TheVariants.{X, Y}
 use Rattle.compact_types.specs.declared.places.Point.{Point}
 use Rattle.compact_types.specs.declared.places.Places.{Places}
@@ -15,21 +14,20 @@ use Rattle.compact_types.specs.declared.plan.Plan.{Plan}
 use Rattle.compact_types.specs.declared.plan.Shape.{Shape}
 use Rattle.compact_types.specs.declared.plan.Way.{Way}
 use Rattle.compact_types.specs.declared.plan.Way.TheVariants.{East, West, High, Low}
-use Rattle.compact_types.specs.Lookups.{place, along, piece_at, way_at, origin}
+use Rattle.compact_types.specs.Lookups.{place, piece_at, way_at, origin}
 use Rattle.compact_types.specs.Ways.{HasWay}
 use Rattle.compact_types.specs.Drawings.{IsDrawing, begin_of, end_of}
 use Rattle.gml_text.specs.declared.tree.Tree.{Tree, out-Tree}
 use Rattle.gml_text.specs.declared.tree.Pair.{Pair}
 use Rattle.gml_text.specs.declared.tree.Value.{Value}
 use Rattle.drawing_read.specs.declared.reading.Reading.{Reading}
-use Rattle.drawing_read.specs.declared.reading.Spot.{Spot}
 use Rattle.drawing_read.specs.declared.route.Span.{Span}
 use Rattle.drawing_read.specs.declared.written.Node.{Node}
 use Rattle.drawing_read.specs.declared.written.Edge.{Edge}
 use Rattle.drawing_read.specs.declared.written.Graph.{Graph}
 use Rattle.drawing_read.specs.Lookups.{has_key, list_in, list_under, lists_under}
 use Rattle.drawing_read.specs.Routes.{points_in, spans_in, pieces_of, pieces_in}
-use Rattle.drawing_read.specs.WrittenGraphs.{node_in, edge_in, graph_of}
+use Rattle.drawing_read.specs.WrittenGraphs.{edge_in, graph_of}
 use Rattle.drawing_read.specs.DrawFaults.{graphs_of, graph_fault}
 use Rattle.drawing_read.specs.Spots.{graph_spots}
 use Rattle.drawing_read.specs.Readings.{graph_place, IsGraphReading, IfOne, IsReading}
@@ -38,7 +36,7 @@ use Rattle.gml_print.specs.Places.{placed, AreWithin, CanPut, in_thousandths, mo
 use Rattle.gml_print.proofs.ListFacts.{length_range}
 use Rattle.gml_print.proofs.PlaceNumbers.{numerals_tell, same_multiple, place_within}
 use Rattle.gml_print.proofs.Changes.{changed_at}
-use Rattle.gml_print.proofs.Puts.{behind, puts, replaced_by, replaced_by_list, placed_pairs, puts_behind}
+use Rattle.gml_print.proofs.Puts.{puts, replaced_by, replaced_by_list, placed_pairs, puts_behind}
 use Rattle.gml_print.proofs.SpotPaths.{graph_relative, graph_leads}
 use Rattle.gml_print.proofs.MovedGraphs.{Apart}
 use Rattle.gml_print.proofs.MovedReadings.{moved_graph, spans_moved, points_moved, faultless_moved, written_parts}
@@ -161,7 +159,7 @@ placed_reading tree reading places pitch shape can same drawing =
     ap (lists_under (codes "graph")) (new_top ∙ changed_here) ∙ only.1.new_lists ∙ ap (λ (list : List Pair). list ∷ []) (graph_put places pitch spans pairs) in
     let same_place : at ≡ graph_place new =
     here ∙ sym (ap (λ (pairs : List Pair). unwrap_or (position (λ pair. is_some (list_under (codes "graph") pair)) pairs) 0) (new_top ∙ changed_here)
-        ∙ ap (λ (o : Option ℕ). unwrap_or o 0) only.1.new_place) in
+    ∙ ap (λ (o : Option ℕ). unwrap_or o 0) only.1.new_place) in
     let apart = drawing_apart pitch places shape reading.plan can.within can.some_pitch same drawing in
     let P : ℕ → Type 0 = λ at. IsGraphReading at (placed_graph places pitch spans 0 0 pairs) (moved_reading reading places pitch) in
     is_one (graphs_of new) (placed_graph places pitch spans 0 0 pairs) (λ pairs. IsGraphReading (graph_place new) pairs (moved_reading reading places pitch)) lists

@@ -1,17 +1,16 @@
 -- The values at the paths of spots put one after another, list by list.
-use Rattle.std.proofs.Common.{◌≡◌, ℕ, zero, suc, ◌+◌, List, [], ◌∷◌, ◌++◌, length, map, Option, None, Some, refl, sym, ap, ◌∙◌, append_assoc}
+use Rattle.std.proofs.Common.{◌≡◌, ℕ, List, [], ◌∷◌, ◌++◌, map, Option, None, Some, refl, sym, ap, ◌∙◌, append_assoc}
 use Rattle.std.specs.Option.{option_map}
-use Rattle.std.specs.Prelude.{slice_get}
 use Rattle.compact_types.specs.declared.places.Places.{Places}
-use Rattle.gml_text.specs.declared.tree.Tree.{Tree, Tree-F, out-Tree, roll-Tree, out-roll-Tree}
+use Rattle.gml_text.specs.declared.tree.Tree.{Tree, Tree-F, out-Tree, out-roll-Tree}
 use Rattle.gml_text.specs.declared.tree.Pair.{Pair}
 use Rattle.gml_text.specs.declared.tree.Value.{Value}
 use Rattle.gml_text.specs.declared.tree.Value.TheVariants.{Whole, Real, Text, Inner}
 use Rattle.drawing_read.specs.declared.reading.Spot.{Spot}
 use Rattle.drawing_read.specs.Lookups.{list_in}
-use Rattle.gml_print.specs.Placing.{change_at, replaced, put_value, with_changed_value}
+use Rattle.gml_print.specs.Placing.{change_at, replaced, put_value}
 use Rattle.gml_print.specs.Places.{numeral_for, placed}
-use Rattle.gml_print.proofs.Changes.{changed_at, change_at_is, changed_twice, changed_behind, not_changed}
+use Rattle.gml_print.proofs.Changes.{changed_at, change_at_is, changed_twice, not_changed}
 
 -- the spot in a list that a path leads to
 abbrev pub behind : List ℕ → Spot → Spot

@@ -1,9 +1,8 @@
 -- The spots in a list are those of the list by itself, behind the path that leads to it.
-use Rattle.std.proofs.Common.{◌≡◌, ℕ, zero, suc, ◌+◌, Bool, true, false, cond, List, [], ◌∷◌, ◌++◌, length, map, Option, None, Some, refl, sym, ap, ◌∙◌, append_assoc, nat_lt, append-nil, slice_index_or, subst}
-use Rattle.std.specs.Option.{option_map, option_map_or}
+use Rattle.std.proofs.Common.{◌≡◌, ℕ, ◌+◌, Bool, true, false, cond, List, [], ◌∷◌, ◌++◌, map, Option, None, Some, refl, sym, ap, ◌∙◌, nat_lt, slice_index_or, subst}
+use Rattle.std.specs.Option.{option_map_or}
 use Rattle.std.specs.Prelude.{codes}
 use Rattle.std.proofs.lemmas.List.{map-append}
-use Rattle.compact_types.specs.declared.places.Axis.{Axis}
 use Rattle.compact_types.specs.declared.places.Axis.TheVariants.{X, Y}
 use Rattle.gml_text.specs.declared.tree.Pair.{Pair}
 use Rattle.gml_text.specs.declared.tree.Value.{Value}
@@ -116,7 +115,7 @@ points_lead_from span at p (pair ∷ pairs) =
         let P : List Spot → Type 0 = λ spots. LeadIn (spots ++ point_spots [] span (at + 1) (p + 1) pairs) in
         subst P (sym (value_relative (point_vertex span p) pair.value (at ∷ [])))
         (both_lead_in (map (behind (at ∷ [])) (value_spots [] (point_vertex span p) pair.value)) (point_spots [] span (at + 1) (p + 1) pairs)
-            (behind_leads_in at (value_spots [] (point_vertex span p) pair.value)) one)
+        (behind_leads_in at (value_spots [] (point_vertex span p) pair.value)) one)
     by_test false one more = more
 
 pub points_lead : (span : Span) (pairs : List Pair) → LeadIn (point_spots [] span 0 0 pairs)
@@ -191,7 +190,7 @@ graph_leads_from spans at n e (pair ∷ pairs) =
     let P : List Spot → Type 0 = λ spots. LeadIn (spots ++ rest) in
     subst P (sym (pair_relative spans n e pair (at ∷ [])))
     (both_lead_in (map (behind (at ∷ [])) (pair_spots [] spans n e pair)) rest (behind_leads_in at (pair_spots [] spans n e pair))
-        (graph_leads_from spans (at + 1) (counted n (list_under (codes "node") pair)) (counted e (list_under (codes "edge") pair)) pairs))
+    (graph_leads_from spans (at + 1) (counted n (list_under (codes "node") pair)) (counted e (list_under (codes "edge") pair)) pairs))
 
 pub graph_leads : (spans : List Span) (pairs : List Pair) → LeadIn (graph_spots [] spans 0 0 0 pairs)
 graph_leads spans pairs = graph_leads_from spans 0 0 0 pairs
