@@ -16,3 +16,4 @@ pub mod PlacedNodes
 pub mod PlacedEdges
 pub mod PlacedGraphs
 pub mod PlacedReadings
+pub mod PathLemmas
