@@ -17,3 +17,5 @@ pub mod PlacedEdges
 pub mod PlacedGraphs
 pub mod PlacedReadings
 pub mod PathLemmas
+pub mod SpotValues
+pub mod SpotParts
