@@ -2,7 +2,7 @@
 use Rattle.std.proofs.Common.{◌≡◌, ℕ, zero, suc, ◌+◌, ◌≤◌, ◌⊎◌, inl, inr, arith, List, [], ◌∷◌, ◌++◌, length, map, Option, None, Some, Bool, true, false, cond, refl, sym, ap, ◌∙◌, subst, nat_lt, append-nil, append_assoc, length-append, slice_index_or}
 use Rattle.std.specs.Option.{option_map_or}
 use Rattle.std.specs.List.{position, cons_option}
-use Rattle.std.specs.Prelude.{slice_get, codes, option_and_then, is_some}
+use Rattle.std.specs.Prelude.{slice_get, codes, option_and_then, is_some, unwrap_or}
 use Rattle.std.proofs.lemmas.Option.{same_Some}
 use Rattle.compact_types.specs.declared.places.Axis.TheVariants.{X, Y}
 use Rattle.gml_text.specs.declared.tree.Tree.{Tree, out-Tree}
@@ -10,13 +10,19 @@ use Rattle.gml_text.specs.declared.tree.Pair.{Pair}
 use Rattle.gml_text.specs.declared.tree.Value.{Value}
 use Rattle.drawing_read.specs.declared.reading.Spot.{Spot}
 use Rattle.drawing_read.specs.declared.route.Span.{Span}
+use Rattle.drawing_read.specs.declared.reading.Reading.{Reading}
+use Rattle.drawing_read.specs.Routes.{spans_in}
+use Rattle.drawing_read.specs.WrittenGraphs.{graph_of}
+use Rattle.drawing_read.specs.DrawFaults.{graphs_of}
+use Rattle.drawing_read.specs.Readings.{graph_place, IsGraphReading, IsReading}
 use Rattle.drawing_read.specs.Lookups.{has_key, list_in, list_under, lists_under, first_under, first_list, place_under}
 use Rattle.drawing_read.specs.Spots.{spot, in_order, coordinate_spots, inside, node_spots, point_vertex, point_spots, edge_spots, no_span, pair_spots, counted, graph_spots}
 use Rattle.gml_print.specs.Paths.{value_below, value_in, Part}
-use Rattle.gml_print.proofs.ListFacts.{found_at}
+use Rattle.gml_print.proofs.ListFacts.{found_at, position_here, position_later}
+use Rattle.gml_print.proofs.PlacedReadings.{only_graph}
 use Rattle.gml_print.proofs.Changes.{apart_words}
 use Rattle.gml_print.proofs.Puts.{behind}
-use Rattle.gml_print.proofs.SpotPaths.{IsRelative, coordinates_relative, value_spots, value_relative, points_relative, line_spots, line_relative, pair_relative}
+use Rattle.gml_print.proofs.SpotPaths.{IsRelative, coordinates_relative, value_spots, value_relative, points_relative, line_spots, line_relative, pair_relative, graph_relative}
 use Rattle.gml_print.proofs.SpotValues.{Each, each_weaker, PartsFrom, AllPart}
 
 abbrev IsIn : List Pair → Spot → Type 0
@@ -147,3 +153,144 @@ coordinates_fit v pairs = by_places (place_under (codes "x") pairs) (place_under
             cc in
         two_fit pairs v i j x.0.value y.0.value differ
             (ap (option_and_then (λ (pair : Pair). Some pair.value)) x.1) (ap (option_and_then (λ (pair : Pair). Some pair.value)) y.1) (nat_lt i j)
+
+module _ (spots : List ℕ → List Pair → List Spot) (relative : (pairs : List Pair) → IsRelative (λ path. spots path pairs))
+    (fit : (pairs : List Pair) → FitIn pairs (spots [] pairs)) where
+  inside_of : Option ℕ → Option (List Pair) → List Spot
+  inside_of place list = option_map_or (λ a. option_map_or (λ pairs. spots ([] ++ a ∷ []) pairs) list []) place []
+
+  -- the spots inside the list under a key
+  inside_fit : (key : List ℕ) (pairs : List Pair) → FitIn pairs (inside key [] pairs spots)
+  unfolding inside_of
+  inside_fit key pairs = by_place (place_under key pairs) (first_list key pairs) refl refl
+    where
+      by_place : (place : Option ℕ) (list : Option (List Pair)) → place_under key pairs ≡ place → first_list key pairs ≡ list → FitIn pairs (inside_of place list)
+      by_place None list at is = none_fit_in pairs
+      by_place (Some a) None at is = none_fit_in pairs
+      by_place (Some a) (Some list) at is =
+          let found = found_at (has_key key) pairs a at in
+          let inner : list_in found.0.value ≡ Some list = sym (ap (option_and_then (λ (pair : Pair). list_in pair.value)) found.3) ∙ is in
+          let P : List Spot → Type 0 = FitIn pairs in
+          subst P (sym (relative list (a ∷ []))) (fit_behind a found.0 pairs (spots [] list) found.1 (fit_list found.0.value list (spots [] list) inner (fit list)))
+
+value_fit : (v : ℕ) (value : Value) → FitBelow value (value_spots [] v value)
+value_fit v value = by_list (list_in value) refl
+  where
+    by_list : (o : Option (List Pair)) → list_in value ≡ o → FitBelow value (option_map_or (λ list. coordinate_spots [] v list) o [])
+    by_list None inner = none_fit_below value
+    by_list (Some list) inner = fit_list value list (coordinate_spots [] v list) inner (coordinates_fit v list)
+
+at_front : (front : List Pair) (pair : Pair) (pairs : List Pair) (a : ℕ) → length front ≡ a → slice_get (front ++ pair ∷ pairs) a ≡ Some pair
+at_front [] pair pairs zero long = refl
+at_front [] pair pairs (suc a) long = absurd (omega arith)
+at_front (other ∷ front) pair pairs zero long = absurd (omega arith)
+at_front (other ∷ front) pair pairs (suc a) long = at_front front pair pairs a (omega arith)
+
+-- the same pairs with one more of them in front
+one_further : (a : ℕ) (front : List Pair) (pair : Pair) (pairs : List Pair) (spots : List Spot) →
+    FitFrom a ((front ++ pair ∷ []) ++ pairs) spots → FitFrom a (front ++ pair ∷ pairs) spots
+one_further a front pair pairs spots fit = let P : List Pair → Type 0 = λ all. FitFrom a all spots in subst P (append_assoc front (pair ∷ []) pairs) fit
+
+points_fit_from : (span : Span) (at p : ℕ) (pairs front : List Pair) → length front ≡ at → FitFrom at (front ++ pairs) (point_spots [] span at p pairs)
+points_fit_from span at p [] front long = none_fit_from at (front ++ [])
+points_fit_from span at p (pair ∷ pairs) front long =
+    let long_front : length (front ++ pair ∷ []) ≡ at + 1 = omega (arith, length-append front (pair ∷ [])) in
+    by_test (has_key (codes "point") pair)
+    (one_further (at + 1) front pair pairs (point_spots [] span (at + 1) (p + 1) pairs) (points_fit_from span (at + 1) (p + 1) pairs (front ++ pair ∷ []) long_front))
+    (one_further (at + 1) front pair pairs (point_spots [] span (at + 1) p pairs) (points_fit_from span (at + 1) p pairs (front ++ pair ∷ []) long_front))
+  where
+    by_test : (b : Bool) → FitFrom (at + 1) (front ++ pair ∷ pairs) (point_spots [] span (at + 1) (p + 1) pairs) →
+        FitFrom (at + 1) (front ++ pair ∷ pairs) (point_spots [] span (at + 1) p pairs) →
+        FitFrom at (front ++ pair ∷ pairs)
+            (cond b (value_spots (at ∷ []) (point_vertex span p) pair.value ++ point_spots [] span (at + 1) (p + 1) pairs) (point_spots [] span (at + 1) p pairs))
+    by_test true one more =
+        let P : List Spot → Type 0 = λ spots. FitFrom at (front ++ pair ∷ pairs) (spots ++ point_spots [] span (at + 1) (p + 1) pairs) in
+        subst P (sym (value_relative (point_vertex span p) pair.value (at ∷ [])))
+        (fit_then at pair (front ++ pair ∷ pairs) (value_spots [] (point_vertex span p) pair.value) (point_spots [] span (at + 1) (p + 1) pairs)
+            (at_front front pair pairs at long) (value_fit (point_vertex span p) pair.value) one)
+    by_test false one more = earlier at (at + 1) (front ++ pair ∷ pairs) (point_spots [] span (at + 1) p pairs) (omega arith) more
+
+points_fit : (span : Span) (pairs : List Pair) → FitIn pairs (point_spots [] span 0 0 pairs)
+points_fit span pairs = (points_fit_from span 0 0 pairs [] refl).fit
+
+line_fit : (span : Span) (pairs : List Pair) → FitIn pairs (line_spots [] span pairs)
+line_fit span pairs = inside_fit (λ path points. point_spots path span 0 0 points) (points_relative span 0 0) (points_fit span) (codes "Line") pairs
+
+node_fit : (n : ℕ) (pairs : List Pair) → FitIn pairs (node_spots [] n pairs)
+node_fit n pairs = inside_fit (λ path list. coordinate_spots path n list) (coordinates_relative n) (coordinates_fit n) (codes "graphics") pairs
+
+edge_fit : (span : Span) (pairs : List Pair) → FitIn pairs (edge_spots [] span pairs)
+edge_fit span pairs = inside_fit (λ path list. line_spots path span list) (line_relative span) (line_fit span) (codes "graphics") pairs
+
+-- a pair of a graph is a node, an edge or neither
+pair_fit : (spans : List Span) (n e : ℕ) (pair : Pair) → FitBelow pair.value (pair_spots [] spans n e pair)
+pair_fit spans n e pair =
+    by_keys (has_key (codes "node") pair) (has_key (codes "edge") pair) (list_in pair.value) refl (apart_words (codes "node") (codes "edge") refl pair.key)
+  where
+    by_keys : (b c : Bool) (o : Option (List Pair)) → list_in pair.value ≡ o → (b ≡ true → c ≡ false) →
+        FitBelow pair.value (option_map_or (λ list. node_spots [] n list) (cond b o None) []
+            ++ option_map_or (λ list. edge_spots [] (slice_index_or spans e no_span) list) (cond c o None) [])
+    by_keys false false o inner apart = none_fit_below pair.value
+    by_keys false true None inner apart = none_fit_below pair.value
+    by_keys false true (Some list) inner apart =
+        fit_list pair.value list (edge_spots [] (slice_index_or spans e no_span) list) inner (edge_fit (slice_index_or spans e no_span) list)
+    by_keys true true o inner apart = let h : true ≡ false = apart refl in absurd cc
+    by_keys true false None inner apart = none_fit_below pair.value
+    by_keys true false (Some list) inner apart =
+        let P : List Spot → Type 0 = FitBelow pair.value in
+        subst P (sym (append-nil (node_spots [] n list))) (fit_list pair.value list (node_spots [] n list) inner (node_fit n list))
+
+graph_fit_from : (spans : List Span) (at n e : ℕ) (pairs front : List Pair) → length front ≡ at → FitFrom at (front ++ pairs) (graph_spots [] spans at n e pairs)
+graph_fit_from spans at n e [] front long = none_fit_from at (front ++ [])
+graph_fit_from spans at n e (pair ∷ pairs) front long =
+    let m = counted n (list_under (codes "node") pair) in
+    let f = counted e (list_under (codes "edge") pair) in
+    let rest = graph_spots [] spans (at + 1) m f pairs in
+    let long_front : length (front ++ pair ∷ []) ≡ at + 1 = omega (arith, length-append front (pair ∷ [])) in
+    let P : List Spot → Type 0 = λ spots. FitFrom at (front ++ pair ∷ pairs) (spots ++ rest) in
+    subst P (sym (pair_relative spans n e pair (at ∷ [])))
+    (fit_then at pair (front ++ pair ∷ pairs) (pair_spots [] spans n e pair) rest (at_front front pair pairs at long) (pair_fit spans n e pair)
+        (one_further (at + 1) front pair pairs rest (graph_fit_from spans (at + 1) m f pairs (front ++ pair ∷ []) long_front)))
+
+graph_fit : (spans : List Span) (pairs : List Pair) → FitIn pairs (graph_spots [] spans 0 0 0 pairs)
+graph_fit spans pairs = (graph_fit_from spans 0 0 0 pairs [] refl).fit
+
+listed : (b : Bool) (o : Option (List Pair)) (list : List Pair) → cond b o None ≡ Some list → o ≡ Some list
+listed true o list is = is
+listed false o list is = cc
+
+-- where the one list under a key stands
+IsThere : List ℕ → List Pair → List Pair → Type 0
+IsThere key pairs list =
+    (a : ℕ) × (pair : Pair) × (position (λ pair. is_some (list_under key pair)) pairs ≡ Some a) × (slice_get pairs a ≡ Some pair) × (list_in pair.value ≡ Some list)
+
+only_there : (key : List ℕ) (pairs list : List Pair) → lists_under key pairs ≡ list ∷ [] → IsThere key pairs list
+unfolding IsThere
+only_there key [] list one = cc
+only_there key (pair ∷ pairs) list one = by_list (list_under key pair) refl one (λ one. only_there key pairs list one)
+  where
+    by_list : (o : Option (List Pair)) → list_under key pair ≡ o → cons_option o (lists_under key pairs) ≡ list ∷ [] →
+        (lists_under key pairs ≡ list ∷ [] → IsThere key pairs list) → IsThere key (pair ∷ pairs) list
+    by_list None none is rest =
+        let later = rest is in
+        (suc later.0, later.1, position_later (λ pair. is_some (list_under key pair)) pair pairs later.0 (ap is_some none) later.2, later.3, later.4)
+    by_list (Some found) some is rest =
+        let same : found ≡ list = cc in
+        let inner : list_in pair.value ≡ Some found = listed (has_key key pair) (list_in pair.value) found some in
+        (0, pair, position_here (λ pair. is_some (list_under key pair)) pair pairs (ap is_some some), refl, inner ∙ ap (λ (l : List Pair). Some l) same)
+
+-- the paths of the spots of a reading part, and a value stands at each
+pub reading_fit : (tree : Tree) (reading : Reading) → IsReading tree reading → FitIn (out-Tree tree).pairs reading.spots
+unfolding IsThere
+reading_fit tree reading read =
+    let one = only_graph (graphs_of tree) (λ pairs. IsGraphReading (graph_place tree) pairs reading) read in
+    let pairs = one.0 in
+    let spans = spans_in (graph_of pairs) in
+    let there = only_there (codes "graph") (out-Tree tree).pairs pairs one.1 in
+    let at : graph_place tree ≡ there.0 = ap (λ (o : Option ℕ). unwrap_or o 0) there.2 in
+    let spots : reading.spots ≡ map (behind (there.0 ∷ [])) (graph_spots [] spans 0 0 0 pairs) =
+    one.2.spots ∙ ap (λ (a : ℕ). graph_spots (a ∷ []) spans 0 0 0 pairs) at ∙ graph_relative spans 0 0 0 pairs (there.0 ∷ []) in
+    let P : List Spot → Type 0 = FitIn (out-Tree tree).pairs in
+    subst P (sym spots)
+    (fit_behind there.0 there.1 (out-Tree tree).pairs (graph_spots [] spans 0 0 0 pairs) there.3
+        (fit_list there.1.value pairs (graph_spots [] spans 0 0 0 pairs) there.4 (graph_fit spans pairs)))
