@@ -1,14 +1,12 @@
 -- Values put at paths: what stands there then, what stays, and that paths that part do not meddle.
-use Rattle.std.proofs.Common.{◌≡◌, ℕ, zero, suc, ◌⊎◌, inl, inr, arith, List, [], ◌∷◌, Option, None, Some, refl, sym, ap, ◌∙◌, Bool, true, false}
-use Rattle.std.specs.Option.{option_map}
+use Rattle.std.proofs.Common.{◌≡◌, ℕ, zero, suc, ◌⊎◌, inl, inr, List, [], ◌∷◌, Option, Some, refl, sym, ap, ◌∙◌}
 use Rattle.std.specs.Prelude.{slice_get, option_and_then}
 use Rattle.gml_text.specs.declared.tree.Tree.{Tree, Tree-F, out-Tree, roll-Tree, out-roll-Tree}
 use Rattle.gml_text.specs.declared.tree.Pair.{Pair}
 use Rattle.gml_text.specs.declared.tree.Value.{Value}
 use Rattle.gml_text.specs.declared.tree.Value.TheVariants.{Whole, Real, Text, Inner}
-use Rattle.drawing_read.specs.Lookups.{list_in}
-use Rattle.gml_print.specs.Placing.{with_changed_value, change_at, replaced, put_value}
-use Rattle.gml_print.specs.Paths.{value_below, value_in, value_at, Part}
+use Rattle.gml_print.specs.Placing.{change_at, replaced, put_value}
+use Rattle.gml_print.specs.Paths.{value_below, value_at, Part}
 use Rattle.gml_print.proofs.Changes.{changed_at, change_at_is, changed_twice}
 
 pub part_back : (p q : List ℕ) → Part p q → Part q p
@@ -72,11 +70,11 @@ replaced_commute (a ∷ p) (b ∷ q) new other (Real word) part = refl
 replaced_commute (a ∷ p) (b ∷ q) new other (Text inside) part = refl
 replaced_commute (a ∷ p) (b ∷ q) new other (Inner tree) (inl differ) =
     ap (λ (t : Tree). Inner t) (put_two_in a b p q new other tree
-        ∙ ap tree_of (change_commute a b (replaced p new) (replaced q other) (out-Tree tree).pairs (inl differ)) ∙ sym (put_two_in b a q p other new tree))
+    ∙ ap tree_of (change_commute a b (replaced p new) (replaced q other) (out-Tree tree).pairs (inl differ)) ∙ sym (put_two_in b a q p other new tree))
 replaced_commute (a ∷ p) (b ∷ q) new other (Inner tree) (inr part) =
     ap (λ (t : Tree). Inner t) (put_two_in a b p q new other tree
-        ∙ ap tree_of (change_commute a b (replaced p new) (replaced q other) (out-Tree tree).pairs (inr (λ value. replaced_commute p q new other value part)))
-        ∙ sym (put_two_in b a q p other new tree))
+    ∙ ap tree_of (change_commute a b (replaced p new) (replaced q other) (out-Tree tree).pairs (inr (λ value. replaced_commute p q new other value part)))
+    ∙ sym (put_two_in b a q p other new tree))
 
 -- values at paths that part come in either order
 pub puts_commute : (p q : List ℕ) (new other : Value) (tree : Tree) → Part p q → put_value p new (put_value q other tree) ≡ put_value q other (put_value p new tree)
@@ -99,7 +97,7 @@ replaced_again (a ∷ p) new other (Real word) = refl
 replaced_again (a ∷ p) new other (Text inside) = refl
 replaced_again (a ∷ p) new other (Inner tree) =
     ap (λ (t : Tree). Inner t) (put_two_in a a p p new other tree
-        ∙ ap tree_of (change_again a (replaced p new) (replaced p other) (out-Tree tree).pairs (replaced_again p new other)))
+    ∙ ap tree_of (change_again a (replaced p new) (replaced p other) (out-Tree tree).pairs (replaced_again p new other)))
 
 -- of two values at one path the last counts
 pub put_again : (p : List ℕ) (new other : Value) (tree : Tree) → put_value p new (put_value p other tree) ≡ put_value p new tree

@@ -1,5 +1,5 @@
 -- The paths of a drawing's spots part, and a value stands at each.
-use Rattle.std.proofs.Common.{◌≡◌, ℕ, zero, suc, ◌+◌, ◌≤◌, ◌⊎◌, inl, inr, arith, List, [], ◌∷◌, ◌++◌, length, map, Option, None, Some, Bool, true, false, cond, refl, sym, ap, ◌∙◌, subst, nat_lt, append-nil, append_assoc, length-append, slice_index_or}
+use Rattle.std.proofs.Common.{◌≡◌, ℕ, zero, suc, ◌+◌, ◌≤◌, inl, inr, arith, List, [], ◌∷◌, ◌++◌, length, map, Option, None, Some, Bool, true, false, cond, refl, sym, ap, ◌∙◌, subst, nat_lt, append-nil, append_assoc, length-append, slice_index_or}
 use Rattle.std.specs.Option.{option_map_or}
 use Rattle.std.specs.List.{position, cons_option}
 use Rattle.std.specs.Prelude.{slice_get, codes, option_and_then, is_some, unwrap_or}
@@ -15,7 +15,7 @@ use Rattle.drawing_read.specs.Routes.{spans_in}
 use Rattle.drawing_read.specs.WrittenGraphs.{graph_of}
 use Rattle.drawing_read.specs.DrawFaults.{graphs_of}
 use Rattle.drawing_read.specs.Readings.{graph_place, IsGraphReading, IsReading}
-use Rattle.drawing_read.specs.Lookups.{has_key, list_in, list_under, lists_under, first_under, first_list, place_under}
+use Rattle.drawing_read.specs.Lookups.{has_key, list_in, list_under, lists_under, first_list, place_under}
 use Rattle.drawing_read.specs.Spots.{spot, in_order, coordinate_spots, inside, node_spots, point_vertex, point_spots, edge_spots, no_span, pair_spots, counted, graph_spots}
 use Rattle.gml_print.specs.Paths.{value_below, value_in, Part}
 use Rattle.gml_print.proofs.ListFacts.{found_at, position_here, position_later}
@@ -102,10 +102,11 @@ each_of_both P (spot ∷ xs) ys first second = (first.0, each_of_both P xs ys fi
 
 all_part_then : (a : ℕ) (xs ys : List Spot) → AllPart xs → AllPart ys → From (a + 1) ys → AllPart (map (behind (a ∷ [])) xs ++ ys)
 all_part_then a [] ys first second from = second
-all_part_then a (spot ∷ xs) ys first second from =
-    (each_of_both (λ other. Part (a ∷ spot.path) other.path) (map (behind (a ∷ [])) xs) ys (parts_behind a spot.path xs first.0)
-        (each_weaker (λ other. StartsFrom (a + 1) other.path) (λ other. Part (a ∷ spot.path) other.path) ys (λ other from. later_part a spot.path other.path from) from),
-    all_part_then a xs ys first.1 second from)
+all_part_then a (spot ∷ xs) ys first second from = (
+  each_of_both (λ other. Part (a ∷ spot.path) other.path) (map (behind (a ∷ [])) xs) ys (parts_behind a spot.path xs first.0)
+      (each_weaker (λ other. StartsFrom (a + 1) other.path) (λ other. Part (a ∷ spot.path) other.path) ys (λ other from. later_part a spot.path other.path from) from),
+  all_part_then a xs ys first.1 second from,
+)
 
 -- spots of the pairs from a place on
 record FitFrom (a : ℕ) (pairs : List Pair) (spots : List Spot) : Type 0 where
@@ -147,12 +148,12 @@ coordinates_fit v pairs = by_places (place_under (codes "x") pairs) (place_under
         let x = found_at (has_key (codes "x")) pairs i first in
         let y = found_at (has_key (codes "y")) pairs j second in
         let differ : i ≡ j → ⊥ = λ e.
-            let same : x.0 ≡ y.0 = same_Some x.0 y.0 (sym x.1 ∙ ap (slice_get pairs) e ∙ y.1) in
-            let other : has_key (codes "y") x.0 ≡ false = apart_words (codes "x") (codes "y") refl x.0.key x.2 in
-            let both : has_key (codes "y") x.0 ≡ true = ap (has_key (codes "y")) same ∙ y.2 in
-            cc in
+        let same : x.0 ≡ y.0 = same_Some x.0 y.0 (sym x.1 ∙ ap (slice_get pairs) e ∙ y.1) in
+        let other : has_key (codes "y") x.0 ≡ false = apart_words (codes "x") (codes "y") refl x.0.key x.2 in
+        let both : has_key (codes "y") x.0 ≡ true = ap (has_key (codes "y")) same ∙ y.2 in
+        cc in
         two_fit pairs v i j x.0.value y.0.value differ
-            (ap (option_and_then (λ (pair : Pair). Some pair.value)) x.1) (ap (option_and_then (λ (pair : Pair). Some pair.value)) y.1) (nat_lt i j)
+        (ap (option_and_then (λ (pair : Pair). Some pair.value)) x.1) (ap (option_and_then (λ (pair : Pair). Some pair.value)) y.1) (nat_lt i j)
 
 module _ (spots : List ℕ → List Pair → List Spot) (relative : (pairs : List Pair) → IsRelative (λ path. spots path pairs))
     (fit : (pairs : List Pair) → FitIn pairs (spots [] pairs)) where
@@ -202,12 +203,12 @@ points_fit_from span at p (pair ∷ pairs) front long =
     by_test : (b : Bool) → FitFrom (at + 1) (front ++ pair ∷ pairs) (point_spots [] span (at + 1) (p + 1) pairs) →
         FitFrom (at + 1) (front ++ pair ∷ pairs) (point_spots [] span (at + 1) p pairs) →
         FitFrom at (front ++ pair ∷ pairs)
-            (cond b (value_spots (at ∷ []) (point_vertex span p) pair.value ++ point_spots [] span (at + 1) (p + 1) pairs) (point_spots [] span (at + 1) p pairs))
+        (cond b (value_spots (at ∷ []) (point_vertex span p) pair.value ++ point_spots [] span (at + 1) (p + 1) pairs) (point_spots [] span (at + 1) p pairs))
     by_test true one more =
         let P : List Spot → Type 0 = λ spots. FitFrom at (front ++ pair ∷ pairs) (spots ++ point_spots [] span (at + 1) (p + 1) pairs) in
         subst P (sym (value_relative (point_vertex span p) pair.value (at ∷ [])))
         (fit_then at pair (front ++ pair ∷ pairs) (value_spots [] (point_vertex span p) pair.value) (point_spots [] span (at + 1) (p + 1) pairs)
-            (at_front front pair pairs at long) (value_fit (point_vertex span p) pair.value) one)
+        (at_front front pair pairs at long) (value_fit (point_vertex span p) pair.value) one)
     by_test false one more = earlier at (at + 1) (front ++ pair ∷ pairs) (point_spots [] span (at + 1) p pairs) (omega arith) more
 
 points_fit : (span : Span) (pairs : List Pair) → FitIn pairs (point_spots [] span 0 0 pairs)
@@ -229,7 +230,7 @@ pair_fit spans n e pair =
   where
     by_keys : (b c : Bool) (o : Option (List Pair)) → list_in pair.value ≡ o → (b ≡ true → c ≡ false) →
         FitBelow pair.value (option_map_or (λ list. node_spots [] n list) (cond b o None) []
-            ++ option_map_or (λ list. edge_spots [] (slice_index_or spans e no_span) list) (cond c o None) [])
+        ++ option_map_or (λ list. edge_spots [] (slice_index_or spans e no_span) list) (cond c o None) [])
     by_keys false false o inner apart = none_fit_below pair.value
     by_keys false true None inner apart = none_fit_below pair.value
     by_keys false true (Some list) inner apart =
@@ -250,7 +251,7 @@ graph_fit_from spans at n e (pair ∷ pairs) front long =
     let P : List Spot → Type 0 = λ spots. FitFrom at (front ++ pair ∷ pairs) (spots ++ rest) in
     subst P (sym (pair_relative spans n e pair (at ∷ [])))
     (fit_then at pair (front ++ pair ∷ pairs) (pair_spots [] spans n e pair) rest (at_front front pair pairs at long) (pair_fit spans n e pair)
-        (one_further (at + 1) front pair pairs rest (graph_fit_from spans (at + 1) m f pairs (front ++ pair ∷ []) long_front)))
+    (one_further (at + 1) front pair pairs rest (graph_fit_from spans (at + 1) m f pairs (front ++ pair ∷ []) long_front)))
 
 graph_fit : (spans : List Span) (pairs : List Pair) → FitIn pairs (graph_spots [] spans 0 0 0 pairs)
 graph_fit spans pairs = (graph_fit_from spans 0 0 0 pairs [] refl).fit
@@ -293,4 +294,4 @@ reading_fit tree reading read =
     let P : List Spot → Type 0 = FitIn (out-Tree tree).pairs in
     subst P (sym spots)
     (fit_behind there.0 there.1 (out-Tree tree).pairs (graph_spots [] spans 0 0 0 pairs) there.3
-        (fit_list there.1.value pairs (graph_spots [] spans 0 0 0 pairs) there.4 (graph_fit spans pairs)))
+    (fit_list there.1.value pairs (graph_spots [] spans 0 0 0 pairs) there.4 (graph_fit spans pairs)))

@@ -1,5 +1,5 @@
 -- The numerals of spots whose paths part: each stands at its spot, and nothing else changes.
-use Rattle.std.proofs.Common.{◌≡◌, ℕ, zero, suc, ◌+◌, ◌≤◌, ◌⊎◌, inl, inr, arith, List, [], ◌∷◌, ◌++◌, length, map, Option, None, Some, Bool, true, false, cond, refl, sym, ap, ◌∙◌, subst}
+use Rattle.std.proofs.Common.{◌≡◌, ℕ, List, [], ◌∷◌, Some, refl, ap, ◌∙◌}
 use Rattle.gml_text.specs.declared.tree.Tree.{Tree}
 use Rattle.gml_text.specs.declared.tree.Value.{Value}
 use Rattle.gml_text.specs.declared.tree.Value.TheVariants.{Text}
@@ -47,12 +47,13 @@ module _ (places : Places) (pitch : ℕ) where
       Each (λ spot. value_at spot.path (placed tree spots places pitch) ≡ Some (numeral_for places pitch spot)) spots
   numerals_stand tree [] part at = tt
   numerals_stand tree (spot ∷ spots) part at =
-      let new = put_value spot.path (numeral_for places pitch spot) tree in
-      (others_stay new spots spot.path part.0 ∙ put_stands spot.path (numeral_for places pitch spot) tree at.0.0 at.0.1,
-      numerals_stand new spots part.1
-          (each_of_two (λ other. Part spot.path other.path) (IsAt tree) (IsAt new) spots
-              (λ other part at. (at.0, put_elsewhere other.path spot.path (numeral_for places pitch spot) tree (part_back spot.path other.path part) ∙ at.1))
-              part.0 at.1))
+      let new = put_value spot.path (numeral_for places pitch spot) tree in (
+        others_stay new spots spot.path part.0 ∙ put_stands spot.path (numeral_for places pitch spot) tree at.0.0 at.0.1,
+        numerals_stand new spots part.1
+            (each_of_two (λ other. Part spot.path other.path) (IsAt tree) (IsAt new) spots
+            (λ other part at. (at.0, put_elsewhere other.path spot.path (numeral_for places pitch spot) tree (part_back spot.path other.path part) ∙ at.1))
+            part.0 at.1),
+      )
 
   put_over : (path : List ℕ) (value : Value) (tree : Tree) (spots : List Spot) → PartsFrom path spots →
       put_value path value (placed tree spots places pitch) ≡ placed (put_value path value tree) spots places pitch
@@ -66,6 +67,6 @@ module _ (places : Places) (pitch : ℕ) where
   rest_stays tree [] part = refl
   rest_stays tree (spot ∷ spots) part =
       ap (λ (t : Tree). blanked t spots)
-          (put_over spot.path (Text []) (put_value spot.path (numeral_for places pitch spot) tree) spots part.0
-          ∙ ap (λ (t : Tree). placed t spots places pitch) (put_again spot.path (Text []) (numeral_for places pitch spot) tree))
+      (put_over spot.path (Text []) (put_value spot.path (numeral_for places pitch spot) tree) spots part.0
+      ∙ ap (λ (t : Tree). placed t spots places pitch) (put_again spot.path (Text []) (numeral_for places pitch spot) tree))
       ∙ rest_stays (put_value spot.path (Text []) tree) spots part.1

@@ -95,3 +95,6 @@ fn numeral_for(alloc: Global, places: &Places, pitch: u32, spot: &Spot) -> Resul
     let number = multiple(pitch, coordinate_at(places, spot));
     Ok(Value::Whole(whole_text(alloc, number)?))
 }
+
+#[cfg(test)]
+mod tests;
