@@ -19,6 +19,7 @@ use Rattle.drawing_read.specs.Lookups.{lists_under}
 use Rattle.drawing_read.specs.WrittenGraphs.{graph_of}
 use Rattle.drawing_read.specs.Routes.{ids_of, number_of_id, node_with, points_in, pieces_in}
 
+-- there is no pair with that key
 abbrev pub is_absent : WholeNumber → Bool
 is_absent Absent = true
 is_absent Other = false
@@ -43,9 +44,11 @@ is_no_numeral (Fits number) = false
 abbrev pub repeats_id : List ℤ → ℕ → Bool
 repeats_id ids n = is_some (number_of_id (take n ids) (slice_index_or ids n (pos 0)))
 
+-- the first node with the id of an earlier one
 abbrev pub first_repeated : List ℤ → Option ℕ
 first_repeated ids = find (repeats_id ids) (range_with_len 0 (length ids))
 
+-- the two numbers of a place, where it has both
 abbrev pub both_numbers : Option Numbers → List Number
 both_numbers None = []
 both_numbers (Some numbers) = numbers.x ∷ numbers.y ∷ []
@@ -71,6 +74,7 @@ earlier a b = if nat_lt b.at a.at then b else a
 abbrev pub first_refused : List Number → Option RefusedNumber
 first_refused numbers = reduce earlier (filter_map refused_in numbers)
 
+-- the source or the target of the edge is no whole numeral
 abbrev pub lacks_end : Edge → Bool
 lacks_end edge = is_no_numeral edge.source || is_no_numeral edge.target
 

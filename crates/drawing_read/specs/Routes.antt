@@ -61,6 +61,7 @@ route_of look edge = record {
   points = map point_of edge.points;
 }
 
+-- the two points are one
 abbrev pub same_point : Point → Point → Bool
 same_point p q = int_eq p.x q.x && int_eq p.y q.y
 
@@ -103,6 +104,7 @@ span_of nodes first route = record {
   bends = length (bends_of nodes route);
 }
 
+-- the edges in order, the bends of the first of them numbered from `first` on
 abbrev pub spans_from : List Point → ℕ → List Route → List Span
 spans_from nodes first [] = []
 spans_from nodes first (route ∷ routes) = span_of nodes first route ∷ spans_from nodes (first + length (bends_of nodes route)) routes
@@ -128,9 +130,11 @@ pieces_of spans = flat_map span_pieces spans
 abbrev pub routes_by : (ℤ → Option ℕ) → Graph → List Route
 routes_by look graph = map (route_of look) graph.edges
 
+-- the places of the vertices, where `look` tells which node has an id
 abbrev pub points_by : (ℤ → Option ℕ) → Graph → List Point
 points_by look graph = vertex_points (node_points graph.nodes) (routes_by look graph)
 
+-- the edges by the numbers of their vertices, where `look` tells which node has an id
 abbrev pub spans_by : (ℤ → Option ℕ) → Graph → List Span
 spans_by look graph = spans_of (node_points graph.nodes) (routes_by look graph)
 

@@ -13,13 +13,16 @@ is_pair_within = fold-Pair Bool Bool Bool value_has_right_words pair_has_right_w
 abbrev pub weight_of : Pair → ℕ
 weight_of = fold-Pair ℕ ℕ ℕ pairs_in_value pairs_with_value pairs_in_list
 
+-- the most pairs that a tree has that was read
 abbrev pub most_pairs : ℕ
 most_pairs = 67108864
 
+-- the pair as it stands in a tree that was read
 pub record IsReadablePair (pair : Pair) : Type 0 where
   pub words : is_pair_within pair ≡ true
   pub few : weight_of pair ≤ most_pairs
 
+-- the pairs of a list as they stand in a tree that was read
 pub record AreReadable (pairs : List Pair) : Type 0 where
   pub words : list_all is_pair_within pairs ≡ true
   pub few : sum_by weight_of pairs ≤ most_pairs

@@ -23,7 +23,7 @@ in_order path vertex (Some x) (Some y) =
 abbrev pub coordinate_spots : List ℕ → ℕ → List Pair → List Spot
 coordinate_spots path vertex pairs = in_order path vertex (place_under (codes "x") pairs) (place_under (codes "y") pairs)
 
--- what is said of the place and the list under a key, where there is one
+-- the spots inside the list under a key, where there is one
 abbrev pub inside : List ℕ → List ℕ → List Pair → (List ℕ → List Pair → List Spot) → List Spot
 inside key path pairs spots =
     option_map_or (λ at. option_map_or (λ list. spots (path ++ at ∷ []) list) (first_list key pairs) []) (place_under key pairs) []
@@ -53,6 +53,7 @@ abbrev pub edge_spots : List ℕ → Span → List Pair → List Spot
 edge_spots path span pairs =
     inside (codes "graphics") path pairs (λ within list. inside (codes "Line") within list (λ line points. point_spots line span 0 0 points))
 
+-- the span that stands for one that is not there
 abbrev pub no_span : Span
 no_span = record { source = 0; target = 0; at_source = 0; first = 0; bends = 0 }
 
