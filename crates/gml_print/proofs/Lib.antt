@@ -16,3 +16,6 @@ pub mod PlacedNodes
 pub mod PlacedEdges
 pub mod PlacedGraphs
 pub mod PlacedReadings
+pub mod PathLemmas
+pub mod SpotValues
+pub mod SpotParts

@@ -1,9 +1,11 @@
 -- Positions, filters and ranges.
-use Rattle.std.proofs.Common.{◌≡◌, ℕ, zero, suc, ◌+◌, ◌⊎◌, inl, inr, arith, Bool, true, false, not, cond, List, [], ◌∷◌, ◌++◌, length, map, Option, None, Some, refl, ap, nat_lt, add-zero, zero-add}
+use Rattle.std.proofs.Common.{◌≡◌, ℕ, zero, suc, ◌+◌, ◌⊎◌, inl, inr, arith, Bool, true, false, not, cond, List, [], ◌∷◌, ◌++◌, length, map, Option, None, Some, refl, sym, ap, ◌∙◌, nat_lt, add-zero, zero-add}
 use Rattle.std.specs.List.{position, find, prefix_len, range_with_len}
 use Rattle.std.specs.Option.{option_or}
 use Rattle.std.proofs.lemmas.Bool.Decides.{nat_tests}
 use Rattle.std.proofs.lemmas.List.{length-map}
+use Rattle.std.proofs.lemmas.Option.{same_Some}
+use Rattle.std.specs.Prelude.{slice_get}
 
 prefix_len-map : {X Y : Type 0} (p : Y → Bool) (f : X → Y) (xs : List X) → prefix_len p (map f xs) ≡ prefix_len (λ x. p (f x)) xs
 prefix_len-map p f [] = refl
@@ -81,3 +83,26 @@ found_later false k n a fails is = grind (arith, nat_tests)
 
 pub position_later : {X : Type 0} (p : X → Bool) (x : X) (xs : List X) (a : ℕ) → p x ≡ false → position p xs ≡ Some a → position p (x ∷ xs) ≡ Some (suc a)
 position_later p x xs a fails is = found_later (p x) (prefix_len (λ y. not (p y)) xs) (length xs) a fails is
+
+-- what stands at the place of the first that passes
+pub found_at : {X : Type 0} (p : X → Bool) (xs : List X) (a : ℕ) → position p xs ≡ Some a →
+    (x : X) × (slice_get xs a ≡ Some x) × (p x ≡ true) × (find p xs ≡ Some x)
+found_at p [] a is = cc
+found_at {X} p (x ∷ xs) a is = by_test (p x) refl (λ k later. found_at p xs k later)
+  where
+    by_test : (b : Bool) → p x ≡ b → ((k : ℕ) → position p xs ≡ Some k → (y : X) × (slice_get xs k ≡ Some y) × (p y ≡ true) × (find p xs ≡ Some y)) →
+        (y : X) × (slice_get (x ∷ xs) a ≡ Some y) × (p y ≡ true) × (find p (x ∷ xs) ≡ Some y)
+    by_test true passes rest =
+        let first : Some a ≡ Some 0 = sym is ∙ position_here p x xs passes in
+        let at : a ≡ 0 = same_Some a 0 first in
+        (x, ap (slice_get (x ∷ xs)) at, passes, rw passes refl)
+    by_test false fails rest = later (find_position p xs) rest
+      where
+        later : ((position p xs ≡ None) × (find p xs ≡ None)) ⊎ ((k : ℕ) × (y : X) × ((position p xs ≡ Some k) × (find p xs ≡ Some y))) →
+            ((k : ℕ) → position p xs ≡ Some k → (y : X) × (slice_get xs k ≡ Some y) × (p y ≡ true) × (find p xs ≡ Some y)) →
+            (y : X) × (slice_get (x ∷ xs) a ≡ Some y) × (p y ≡ true) × (find p (x ∷ xs) ≡ Some y)
+        later (inl h) rest = let none : position p (x ∷ xs) ≡ None = position_none_cons p x xs fails h.0 in cc
+        later (inr h) rest =
+            let at : a ≡ suc h.0 = same_Some a (suc h.0) (sym is ∙ position_later p x xs h.0 fails h.2.0) in
+            let found = rest h.0 h.2.0 in
+            (found.0, ap (slice_get (x ∷ xs)) at ∙ found.1, found.2, rw fails found.3)

@@ -43,7 +43,7 @@ use Rattle.gml_print.proofs.MovedReadings.{moved_graph, spans_moved, points_move
 use Rattle.gml_print.proofs.PlacedGraphs.{placed_graph, graph_put, same_graph_spots, nodes_placed, edges_placed, only_list}
 
 -- the one list of a reading
-only_graph : (lists : List (List Pair)) (P : List Pair → Type 0) → IfOne lists P → (pairs : List Pair) × (lists ≡ pairs ∷ []) × P pairs
+pub only_graph : (lists : List (List Pair)) (P : List Pair → Type 0) → IfOne lists P → (pairs : List Pair) × (lists ≡ pairs ∷ []) × P pairs
 only_graph [] P one = absurd one
 only_graph (pairs ∷ []) P one = (pairs, refl, one)
 only_graph (pairs ∷ other ∷ more) P one = absurd one

@@ -3,3 +3,4 @@ pub mod Printing
 pub mod Numbers
 pub mod Placing
 pub mod Places
+pub mod Paths

@@ -1,12 +1,13 @@
 //! The tree of a drawing with new places of its vertices.
 
-ghost use Rattle.std.specs.Prelude.{◌≡◌, ℕ, ◌≤◌, pos, ◌*ℤ◌, ◌≤ℤ◌, IfOk};
+ghost use Rattle.std.specs.Prelude.{◌≡◌, ℕ, ◌≤◌, pos, ◌*ℤ◌, ◌≤ℤ◌, List, Some, IfOk, All};
 ghost use Rattle.compact_types.specs.declared.places.Places.{Places};
 ghost use Rattle.compact_types.specs.declared.plan.Shape.{Shape};
 ghost use Rattle.compact_types.specs.Drawings.{IsDrawing};
 ghost use Rattle.gml_text.specs.declared.tree.Tree.{Tree};
 ghost use Rattle.drawing_read.specs.declared.reading.Reading.{Reading};
 ghost use Rattle.drawing_read.specs.Readings.{IsReading};
+ghost use Rattle.gml_print.specs.Paths.{value_at, Part, blanked};
 ghost use Rattle.gml_print.specs.Places as placing;
 
 use crate::copy::copy_tree;
@@ -40,6 +41,17 @@ pub fn put_places(
     }
     Ok(new)
 }
+
+/// What `put_places` changes: at each spot stands its numeral, on a path that parts from those of all spots the value is
+/// as it was, and apart from the values at the spots the tree is the same, with its keys, its order and its depths.
+pub fn only_spots_change()
+    ensures numerals { (tree : Tree) (reading : Reading) (places : Places) (pitch : ℕ) → placing.CanPut tree reading places pitch →
+        All (λ spot. value_at spot.path (placing.placed tree reading.spots places pitch) ≡ Some (placing.numeral_for places pitch spot)) reading.spots }
+    ensures others { (tree : Tree) (reading : Reading) (places : Places) (pitch : ℕ) (path : List ℕ) →
+        All (λ spot. Part path spot.path) reading.spots → value_at path (placing.placed tree reading.spots places pitch) ≡ value_at path tree }
+    ensures rest { (tree : Tree) (reading : Reading) (places : Places) (pitch : ℕ) → placing.CanPut tree reading places pitch →
+        blanked (placing.placed tree reading.spots places pitch) reading.spots ≡ blanked tree reading.spots }
+{}
 
 /// The law of `put_places`: where the places are a drawing of the shape of the reading, the new tree has the same plan
 /// and the same spots, and its places are `pitch` times the given ones, in thousandths.
@@ -83,3 +95,6 @@ fn numeral_for(alloc: Global, places: &Places, pitch: u32, spot: &Spot) -> Resul
     let number = multiple(pitch, coordinate_at(places, spot));
     Ok(Value::Whole(whole_text(alloc, number)?))
 }
+
+#[cfg(test)]
+mod tests;

@@ -1,0 +1,55 @@
+ghost use Rattle.std.specs.Prelude.{pos, ◌≤ℤ◌, IsTrue};
+ghost use Rattle.gml_print.specs.Places as placing;
+
+use super::*;
+use crate::print::print_tree;
+use compact_types::items::Items;
+use compact_types::places::Point;
+use drawing_read::read::read_drawing;
+use gml_text::read::read_tree;
+use std::test::Fail;
+
+/// Two nodes, the second with y before x, and an edge with a point for its source and a bend.
+const BENT: &[u8] =
+    b"graph [ node [ id 0 graphics [ x 0.0 y 0 x 7 ] ] node [ id 1 x 5 graphics [ y 4e0 x 5 ] ] \
+    edge [ source 0 target 1 graphics [ Line [ point [ x 0 y 0 ] point [ x 0 y 4 ] ] ] ] ]";
+
+/// The same with the nodes at (1, 0) and (3, 2) and the bend at (1, 2), ten units between neighbours.
+const MOVED: &[u8] =
+    b"graph [ node [ id 0 graphics [ x 10 y 0 x 7 ] ] node [ id 1 x 5 graphics [ y 20 x 30 ] ] \
+    edge [ source 0 target 1 graphics [ Line [ point [ x 10 y 0 ] point [ x 10 y 20 ] ] ] ] ]";
+
+fn is_within(number: i64) -> bool
+    ensures low { IsTrue result → pos 0 ≤ℤ number }
+    ensures high { IsTrue result → number ≤ℤ pos 999000 }
+{
+    number >= 0 && number <= 999_000
+}
+
+fn are_within(places: &Places) -> bool
+    ensures { IsTrue result → placing.AreWithin places.now }
+{
+    for point in places.xy.as_slice() {
+        if !is_within(point.x) || !is_within(point.y) {
+            return false;
+        }
+    }
+    true
+}
+
+#[test]
+fn numerals_at_their_spots(rt: HostRuntime) -> Result<(), Fail> {
+    let tree = read_tree(rt.alloc(), BENT)?;
+    let reading = read_drawing(rt.alloc(), &tree)?;
+    let points = [(1, 0), (3, 2), (1, 2)].map(|(x, y)| Point { x, y });
+    let places = Places {
+        xy: Items::from_slice(rt.alloc(), points.as_slice())?,
+    };
+    assert!(rt; are_within(&places));
+    assert_eq!(rt; places.xy.len(), reading.plan.vertices as usize);
+    let new = put_places(rt.alloc(), &tree, &reading, &places, 10)?;
+    let moved = read_tree(rt.alloc(), MOVED)?;
+    let text = print_tree(rt.alloc(), &new)?;
+    assert_eq!(rt; text.as_slice(), print_tree(rt.alloc(), &moved)?.as_slice());
+    Ok(())
+}
