@@ -1,7 +1,7 @@
-ghost use Rattle.std.specs.Prelude.{◌≡◌, ℕ, List, ◌<◌, ◌≤◌, length, take, IfOk, OnOk, OnErr, IfErr};
+ghost use Rattle.std.specs.Prelude.{◌≡◌, ℕ, List, ◌<◌, ◌≤◌, ◌++◌, length, take, IfOk, OnOk, OnErr, IfErr};
 ghost use Rattle.std.specs.Io.KnownBytes.{Consumes, IsAtEnd, Appends};
 ghost use Rattle.io_ends.specs.Counts.{Rose};
-ghost use Rattle.io_ends.specs.Ends.{Gave, OnReadFault, UnlessReadFault, AppendsFront};
+ghost use Rattle.io_ends.specs.Ends.{IsOver, Gave, OnReadFault, UnlessReadFault, AppendsFront};
 ghost use Rattle.io_ends.specs.declared.transfer.ReadEnd.TheVariants.{NoMemory as no_memory_end};
 
 use crate::sink::Sink;
@@ -35,6 +35,21 @@ impl From<NoMemory> for ReadEnd {
 #[derive(Clone, Copy, Debug, PartialEq, Eq)]
 pub struct WriteFault;
 
+/// Adds what was read, unless it makes more bytes than the limit.
+fn add_within(bytes: &mut Items<u8>, read: &[u8], limit: usize) -> Result<(), ReadEnd>
+    requires { length bytes.old ≤ limit }
+    ensures added { OnOk result (bytes.new ≡ bytes.old ++ read.now) }
+    ensures within { OnOk result (length bytes.new ≤ limit) }
+    ensures over { IfErr result (λ why. IsOver why limit (bytes.old ++ read.now)) }
+    ensures no_fault { OnReadFault result ⊥ }
+{
+    if read.len() > limit - bytes.len() {
+        return Err(ReadEnd::TooLong);
+    }
+    bytes.extend_from_slice(read)?;
+    Ok(())
+}
+
 /// All the bytes that the source has left, if they are at most `limit`.
 pub fn read_all<S: Source>(
     alloc: Global,
@@ -59,12 +74,7 @@ pub fn read_all<S: Source>(
     let mut piece = [0u8; PIECE];
     loop {
         match source.read(&mut piece) {
-            Step::Got(count) => {
-                if count > limit - bytes.len() {
-                    return Err(ReadEnd::TooLong);
-                }
-                bytes.extend_from_slice(&piece[..count])?;
-            }
+            Step::Got(count) => add_within(&mut bytes, &piece[..count], limit)?,
             Step::End => return Ok(bytes),
             Step::Failed => return Err(ReadEnd::ReadFault),
         }
