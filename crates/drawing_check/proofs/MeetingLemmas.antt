@@ -89,16 +89,19 @@ apart_from_pieces plan places i j points p q at_places is_first is_second shares
 pub no_meeting : (plan : Plan) (places : Places) (i j : ℕ) → IsApart plan places i j → (w : Point) → Meets plan places i j w → ⊥
 no_meeting plan places i j apart w meets = meets.forbidden (apart w meets.on_first meets.on_second)
 
+-- each of the first n pieces is apart from all that follow it
+pub record AreApart (plan : Plan) (places : Places) (n : ℕ) : Type 0 where
+  pub apart : (p q : ℕ) → p < n → p < q → q < length plan.pieces → IsApart plan places p q
+
 -- the first partner of the first piece that has one is the first meeting
 pub first_from_partner : (plan : Plan) (places : Places) (p : ℕ) (meeting : Meeting) → IsFirstPartner plan places p meeting →
-    ((i j : ℕ) → i < p → i < j → j < length plan.pieces → IsApart plan places i j) →
-    IsFirstMeeting plan places meeting.first meeting.second meeting.point
+    AreApart plan places p → IsFirstMeeting plan places meeting.first meeting.second meeting.point
 first_from_partner plan places p meeting partner earlier =
     subst (λ (first : ℕ). IsFirstMeeting plan places first meeting.second meeting.point) (sym partner.is_first)
     (record { in_order = partner.in_order; in_plan = partner.in_plan; least = partner.least; first = λ i j order inside before. before_none i j order inside before })
   where
     before_none : (i j : ℕ) → i < j → j < length plan.pieces → IsPairBefore i j p meeting.second → (w : Point) → Meets plan places i j w → ⊥
-    before_none i j order inside (inl less) = no_meeting plan places i j (earlier i j less order inside)
+    before_none i j order inside (inl less) = no_meeting plan places i j (earlier.apart i j less order inside)
     before_none i j order inside (inr same) = no_meeting plan places i j
         (subst (λ (k : ℕ). IsApart plan places k j) (sym same.0) (partner.earlier j (omega arith) same.1))
 
@@ -111,16 +114,18 @@ apart_one_more plan places p n below here q after inside = by_order (cases_lt q 
     by_order (inl less) = below q after less
     by_order (inr more) = let same : n ≡ q = omega arith in subst (λ (k : ℕ). IsApart plan places p k) same here
 
+-- of no pieces nothing is asked
+pub none_apart : (plan : Plan) (places : Places) → AreApart plan places 0
+none_apart plan places = record { apart = λ p q below. absurd (omega arith) }
+
 -- one more piece is apart from all that follow
-pub all_apart_one_more : (plan : Plan) (places : Places) (n : ℕ) →
-    ((p q : ℕ) → p < n → p < q → q < length plan.pieces → IsApart plan places p q) →
-    ((q : ℕ) → n < q → q < length plan.pieces → IsApart plan places n q) →
-    (p q : ℕ) → p < n + 1 → p < q → q < length plan.pieces → IsApart plan places p q
-all_apart_one_more plan places n below here p q less after inside = by_order (cases_lt p n)
+pub one_more_apart : (plan : Plan) (places : Places) (n m : ℕ) → m ≡ n + 1 → AreApart plan places n →
+    ((q : ℕ) → n < q → q < length plan.pieces → IsApart plan places n q) → AreApart plan places m
+one_more_apart plan places n m next before here = record { apart = λ p q less after inside. by_order p q (cases_lt p n) less after inside }
   where
-    by_order : (p < n) ⊎ (n ≤ p) → IsApart plan places p q
-    by_order (inl before) = below p q before after inside
-    by_order (inr more) =
+    by_order : (p q : ℕ) → (p < n) ⊎ (n ≤ p) → p < m → p < q → q < length plan.pieces → IsApart plan places p q
+    by_order p q (inl earlier) less after inside = before.apart p q earlier after inside
+    by_order p q (inr more) less after inside =
         let same : n ≡ p = omega arith in
         subst (λ (k : ℕ). IsApart plan places k q) same (here q (omega arith) inside)
 

@@ -36,12 +36,7 @@ pub fn check(alloc: Global, plan: &Plan, places: &Places) -> Result<Shape, Refus
         return Err(Refusal::Fault(ShapeFault::Disconnected(vertex)));
     }
     if let Some(meeting) = first_meeting(plan, places) {
-        return Err(Refusal::Fault(ShapeFault::Meeting {
-            p: meeting.first,
-            q: meeting.second,
-            x: meeting.point.x,
-            y: meeting.point.y,
-        }));
+        return Err(Refusal::Fault(meeting.into()));
     }
     let plan = copy_of(plan)?;
     Ok(Shape { plan, ways })

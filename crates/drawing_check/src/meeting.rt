@@ -1,9 +1,11 @@
 ghost use Rattle.std.specs.Prelude.{◌≡◌, ℕ, ◌<◌, length, MatchOption};
 ghost use Rattle.drawing_check.specs.Conditions.{CanCheck};
 ghost use Rattle.drawing_check.specs.Meetings.{IsApart, IsFirstMeeting};
+ghost use Rattle.drawing_check.specs.declared.fault.ShapeFault.TheVariants as shape_fault;
 ghost use Rattle.drawing_check.specs.Partners.{IsFirstPartner};
 
 use crate::covered::{collision, cover};
+use crate::fault::ShapeFault;
 use compact_types::places::{Places, Point};
 use compact_types::plan::Plan;
 
@@ -15,8 +17,22 @@ pub struct Meeting {
     pub point: Point,
 }
 
+impl From<Meeting> for ShapeFault {
+    ghost from_gives = { λ meeting fault. fault ≡ shape_fault.Meeting meeting.first meeting.second meeting.point.x meeting.point.y };
+
+    fn from(meeting: Meeting) -> ShapeFault {
+        ShapeFault::Meeting {
+            p: meeting.first,
+            q: meeting.second,
+            x: meeting.point.x,
+            y: meeting.point.y,
+        }
+    }
+}
+
 /// The first two pieces, by the number of the first and then of the second, that share a point which they may not
 /// share, and the least such point, by x and then y.
+#[tactic(auto, using(crate::proofs::MeetingLemmas::none_apart, crate::proofs::MeetingLemmas::one_more_apart, crate::proofs::MeetingLemmas::first_from_partner))]
 pub fn first_meeting(plan: &Plan, places: &Places) -> Option<Meeting>
     requires { CanCheck plan.now places.now }
     ensures { MatchOption result

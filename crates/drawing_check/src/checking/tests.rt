@@ -10,6 +10,7 @@ use compact_types::places::{Places, Point};
 use compact_types::plan::{Piece, Plan};
 use compact_types::refusal::{NoMemory, Refusal};
 use std::alloc::Global;
+use std::process::Abort;
 use std::test::Fail;
 
 const REACH: i64 = 10_000_000_000_000;
@@ -72,9 +73,22 @@ fn answer(
 
 type Case<'a> = (&'a [(i64, i64)], &'a [(u32, u32)], Result<(), ShapeFault>);
 
+fn assert_answers(rt: &impl Abort, alloc: Global, cases: &[Case]) -> Result<(), Fail> {
+    for (coordinates, ends, want) in cases {
+        assert_eq!(rt; answer(alloc, coordinates, ends)?, Some(*want));
+    }
+    Ok(())
+}
+
+/// The answer where the pieces p and q meet at (x, y).
+fn meeting(p: u32, q: u32, x: i64, y: i64) -> Result<(), ShapeFault> {
+    Err(ShapeFault::Meeting { p, q, x, y })
+}
+
 #[test]
-fn plans_in_places(rt: HostRuntime) -> Result<(), Fail> {
-    let cases: [Case; 12] = [
+fn drawings(rt: HostRuntime) -> Result<(), Fail> {
+    let square = [(0, 0), (1, 0), (1, 1), (0, 1)];
+    let cases: [Case; 3] = [
         // One vertex, a bent edge, and a square whose sides share their corners only.
         (&[(7, -7)], &[], Ok(())),
         (
@@ -82,89 +96,53 @@ fn plans_in_places(rt: HostRuntime) -> Result<(), Fail> {
             &[(0, 1), (2, 1)],
             Ok(()),
         ),
-        (
-            &[(0, 0), (1, 0), (1, 1), (0, 1)],
-            &[(0, 1), (1, 2), (2, 3), (3, 0)],
-            Ok(()),
-        ),
+        (&square, &[(0, 1), (1, 2), (2, 3), (3, 0)], Ok(())),
+    ];
+    assert_answers(&rt, rt.alloc(), &cases)
+}
+
+#[test]
+fn pieces_that_meet(rt: HostRuntime) -> Result<(), Fail> {
+    let cross = [(0, 0), (9, 0), (5, -5), (5, 5), (9, 5)];
+    let inside = [(0, 0), (9, 0), (5, 0), (0, 5), (5, 5)];
+    let cases: [Case; 4] = [
         // An edge across another, an edge that ends on another, and two edges on the same way.
         (
-            &[
-                (0, 0),
-                (10000, 0),
-                (5000, -5000),
-                (5000, 5000),
-                (10000, 5000),
-            ],
+            &cross,
             &[(0, 1), (2, 3), (1, 4), (4, 3)],
-            Err(ShapeFault::Meeting {
-                p: 0,
-                q: 1,
-                x: 5000,
-                y: 0,
-            }),
+            meeting(0, 1, 5, 0),
         ),
         (
-            &[(0, 0), (10000, 0), (5000, 0), (0, 5000), (5000, 5000)],
+            &inside,
             &[(0, 1), (0, 3), (3, 4), (4, 2)],
-            Err(ShapeFault::Meeting {
-                p: 0,
-                q: 3,
-                x: 5000,
-                y: 0,
-            }),
+            meeting(0, 3, 5, 0),
         ),
-        (
-            &[(0, 0), (10000, 0)],
-            &[(0, 1), (0, 1)],
-            Err(ShapeFault::Meeting {
-                p: 0,
-                q: 1,
-                x: 0,
-                y: 0,
-            }),
-        ),
+        (&[(0, 0), (9, 0)], &[(0, 1), (0, 1)], meeting(0, 1, 0, 0)),
         // Two edges from one vertex on top of each other: the point after the vertex.
         (
             &[(0, 0), (0, 10), (0, 4)],
             &[(0, 1), (0, 2)],
-            Err(ShapeFault::Meeting {
-                p: 0,
-                q: 1,
-                x: 0,
-                y: 1,
-            }),
-        ),
-        // A slanted piece, a piece with no length, and both.
-        (
-            &[(0, 0), (5000, 3000)],
-            &[(0, 1)],
-            Err(ShapeFault::Slanted(0)),
-        ),
-        (
-            &[(0, 0), (5000, 4000), (0, 4000), (0, 4000)],
-            &[(0, 2), (2, 3), (3, 1)],
-            Err(ShapeFault::ZeroPiece(1)),
-        ),
-        (
-            &[(0, 0), (5000, 4000), (5000, 9000), (5000, 9000)],
-            &[(0, 1), (1, 3), (3, 2)],
-            Err(ShapeFault::ZeroPiece(2)),
-        ),
-        // Two edges apart, and a vertex alone on the place of another.
-        (
-            &[(0, 0), (1000, 0), (5000, 5000), (6000, 5000)],
-            &[(0, 1), (2, 3)],
-            Err(ShapeFault::Disconnected(2)),
-        ),
-        (
-            &[(0, 0), (1000, 0), (0, 0)],
-            &[(0, 1)],
-            Err(ShapeFault::Disconnected(2)),
+            meeting(0, 1, 0, 1),
         ),
     ];
-    for (coordinates, ends, want) in cases {
-        assert_eq!(rt; answer(rt.alloc(), coordinates, ends)?, Some(want));
-    }
-    Ok(())
+    assert_answers(&rt, rt.alloc(), &cases)
+}
+
+#[test]
+fn other_faults(rt: HostRuntime) -> Result<(), Fail> {
+    let slanted = Err(ShapeFault::Slanted(0));
+    let no_length = |piece| Err(ShapeFault::ZeroPiece(piece));
+    let apart = Err(ShapeFault::Disconnected(2));
+    let bent = [(0, 0), (5, 4), (0, 4), (0, 4)];
+    let bend_on_a_node = [(0, 0), (5, 4), (5, 9), (5, 9)];
+    let cases: [Case; 5] = [
+        // A slanted piece, a piece with no length, and both.
+        (&[(0, 0), (5, 3)], &[(0, 1)], slanted),
+        (&bent, &[(0, 2), (2, 3), (3, 1)], no_length(1)),
+        (&bend_on_a_node, &[(0, 1), (1, 3), (3, 2)], no_length(2)),
+        // Two edges apart, and a vertex alone on the place of another.
+        (&[(0, 0), (1, 0), (5, 5), (6, 5)], &[(0, 1), (2, 3)], apart),
+        (&[(0, 0), (1, 0), (0, 0)], &[(0, 1)], apart),
+    ];
+    assert_answers(&rt, rt.alloc(), &cases)
 }

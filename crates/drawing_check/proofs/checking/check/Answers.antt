@@ -1,9 +1,6 @@
 use Rattle.std.proofs.Common.{Ok, Err, rules}
-use Rattle.std.proofs.lemmas.Int.{to_z-of_z}
-use mir.Syntax.{w64}
-use mir.Val.{SFits}
 use Rattle.compact_types.specs.declared.refusal.Refusal.TheVariants.{Fault}
-use Rattle.drawing_check.specs.declared.fault.ShapeFault.TheVariants.{ZeroPiece, Meeting}
+use Rattle.drawing_check.specs.declared.fault.ShapeFault.TheVariants.{ZeroPiece}
 use Rattle.drawing_check.proofs.ShapeLemmas.{shape_of, the_shape, the_fault, ways_found, shape_from_parts}
 use Rattle.drawing_check.proofs.checking.check.Goals as goal
 
@@ -24,14 +21,11 @@ returns-in-Some-2-clause-fault c =
     (ways_found c.args.plan.now c.args.places.now _ c.in_ok-ways.ensures.ways, rw c.in-Some-2.is at c.in_ok-vertex.ensures)
 
 pub returns-in-Some-first_meeting-clause-fault : goal.returns-in-Some-first_meeting-clause-fault
-returns-in-Some-first_meeting-clause-fault c =
-    let x : SFits w64 c.in-Some-first_meeting.meeting.point.x = search rules in
-    let y : SFits w64 c.in-Some-first_meeting.meeting.point.y = search rules in
-    simp to_z-of_z (
-      ways_found c.args.plan.now c.args.places.now _ c.in_ok-ways.ensures.ways,
-      rw c.in_default-2.is at c.in_ok-vertex.ensures,
-      c.in-Some-first_meeting.ensures,
-    )
+returns-in-Some-first_meeting-clause-fault c = rw c.into.ensures (
+  ways_found c.args.plan.now c.args.places.now _ c.in_ok-ways.ensures.ways,
+  rw c.in_default-2.is at c.in_ok-vertex.ensures,
+  c.in-Some-first_meeting.ensures,
+)
 
 pub returns-clause-shape : goal.returns-clause-shape
 returns-clause-shape c =
@@ -40,27 +34,11 @@ returns-clause-shape c =
 
 pub returns-in-Some-first_meeting-clause-only : goal.returns-in-Some-first_meeting-clause-only
 returns-in-Some-first_meeting-clause-only c =
-    let found = c.in-Some-first_meeting.meeting in
-    let x : SFits w64 c.in-Some-first_meeting.meeting.point.x = search rules in
-    let y : SFits w64 c.in-Some-first_meeting.meeting.point.y = search rules in
-    simp to_z-of_z
-    (the_shape c.args.plan.now c.args.places.now (Err (Fault (Meeting found.first found.second found.point.x found.point.y))) tt (
-      ways_found c.args.plan.now c.args.places.now _ c.in_ok-ways.ensures.ways,
-      rw c.in_default-2.is at c.in_ok-vertex.ensures,
-      c.in-Some-first_meeting.ensures,
-    ))
+    the_shape c.args.plan.now c.args.places.now (Err (Fault c.into.result)) tt (returns-in-Some-first_meeting-clause-fault c)
 
 pub returns-in-Some-first_meeting-clause-first : goal.returns-in-Some-first_meeting-clause-first
 returns-in-Some-first_meeting-clause-first c =
-    let found = c.in-Some-first_meeting.meeting in
-    let x : SFits w64 c.in-Some-first_meeting.meeting.point.x = search rules in
-    let y : SFits w64 c.in-Some-first_meeting.meeting.point.y = search rules in
-    simp to_z-of_z
-    (the_fault c.args.plan.now c.args.places.now (Err (Fault (Meeting found.first found.second found.point.x found.point.y))) tt (
-      ways_found c.args.plan.now c.args.places.now _ c.in_ok-ways.ensures.ways,
-      rw c.in_default-2.is at c.in_ok-vertex.ensures,
-      c.in-Some-first_meeting.ensures,
-    ))
+    the_fault c.args.plan.now c.args.places.now (Err (Fault c.into.result)) tt (returns-in-Some-first_meeting-clause-fault c)
 
 pub returns-clause-only : goal.returns-clause-only
 returns-clause-only c =
