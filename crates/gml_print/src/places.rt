@@ -20,10 +20,29 @@ use gml_text::tree::{Tree, Value};
 use std::alloc::Global;
 
 /// The tree of a drawing with its vertices at `places`: at each spot stands `pitch` times the coordinate of its vertex,
-/// as a whole numeral. All else is as in `tree`.
+/// as a whole numeral. All else is as it was. The tree itself is changed; without memory it is let go.
 ///
 /// `reading` is that of `tree`, and there is a place for each vertex, with both coordinates from 0 to 999,000; `pitch`
 /// is from 1 to 10,000.
+pub fn with_places(
+    alloc: Global,
+    tree: Tree,
+    reading: &Reading,
+    places: &Places,
+    pitch: u32,
+) -> Result<Tree, NoMemory>
+    requires { placing.CanPut tree reading.now places.now pitch }
+    ensures { IfOk result (λ new. new ≡ placing.placed tree reading.now.spots places.now pitch) }
+{
+    let mut new = tree;
+    for spot in reading.spots.as_slice() {
+        let value = numeral_for(alloc, places, pitch, spot)?;
+        put_value(&mut new, spot.path.as_slice(), value);
+    }
+    Ok(new)
+}
+
+/// As `with_places`, in a copy of the tree.
 pub fn put_places(
     alloc: Global,
     tree: &Tree,
@@ -34,15 +53,11 @@ pub fn put_places(
     requires { placing.CanPut tree.now reading.now places.now pitch }
     ensures { IfOk result (λ new. new ≡ placing.placed tree.now reading.now.spots places.now pitch) }
 {
-    let mut new = copy_tree(alloc, tree)?;
-    for spot in reading.spots.as_slice() {
-        let value = numeral_for(alloc, places, pitch, spot)?;
-        put_value(&mut new, spot.path.as_slice(), value);
-    }
-    Ok(new)
+    let copy = copy_tree(alloc, tree)?;
+    with_places(alloc, copy, reading, places, pitch)
 }
 
-/// What `put_places` changes: at each spot stands its numeral, on a path that parts from those of all spots the value is
+/// What new places change: at each spot stands its numeral, on a path that parts from those of all spots the value is
 /// as it was, and apart from the values at the spots the tree is the same, with its keys, its order and its depths.
 pub fn only_spots_change()
     ensures numerals { (tree : Tree) (reading : Reading) (places : Places) (pitch : ℕ) → placing.CanPut tree reading places pitch →
@@ -53,7 +68,7 @@ pub fn only_spots_change()
         blanked (placing.placed tree reading.spots places pitch) reading.spots ≡ blanked tree reading.spots }
 {}
 
-/// The law of `put_places`: where the places are a drawing of the shape of the reading, the new tree has the same plan
+/// The law of new places: where the places are a drawing of the shape of the reading, the new tree has the same plan
 /// and the same spots, and its places are `pitch` times the given ones, in thousandths.
 pub fn placed_tree_is_read()
     ensures { (tree : Tree) (reading : Reading) (places : Places) (pitch : ℕ) (shape : Shape) →

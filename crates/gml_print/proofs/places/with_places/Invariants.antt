@@ -1,6 +1,6 @@
 use Rattle.std.proofs.Common.{◌≡◌, drop}
 use Rattle.gml_print.specs.Places.{placed}
-use Rattle.gml_print.proofs.places.put_places.Given as goal
+use Rattle.gml_print.proofs.places.with_places.Given as goal
 
 -- the spots that are left turn the tree into the placed one
 abbrev pub invariant-loop-spot : goal.invariant-loop-spot
