@@ -81,8 +81,8 @@ one_text_fault text (Shape f) (Shape g) (s, q, spelled_s, read_s, fault_s) (t, r
 
 -- a text for which something is written is accepted
 pub output-valid : (command : Command) (text written : List ℕ) → Output command text written → IsValid command text
-output-valid commands.Draw text written (within, tree, reading, shape, places, draws) = (within, tree, reading, shape, draws.drawing, draws.row)
-output-valid commands.Check text written (within, tree, reading, shape, counts) = (within, tree, reading, shape, counts.drawing, tt)
+output-valid commands.Draw text written (within, tree, reading, shape, held, places, draws) = (within, tree, reading, shape, held, draws.row)
+output-valid commands.Check text written (within, tree, reading, shape, held, counted) = (within, tree, reading, shape, held, tt)
 
 -- an accepted text has no fault
 pub valid-faultless : (command : Command) (text : List ℕ) (why : Why) → IsValid command text → FirstFault command text why → ⊥

@@ -1,7 +1,9 @@
 -- A connected row is the row of its number of vertices.
-use Rattle.std.proofs.Common.{◌≡◌, ℕ, zero, suc, ◌<◌, ◌≤◌, length, ◌⊎◌, inl, inr, refl, sym, ap, ◌∙◌, subst, arith}
+use Rattle.std.proofs.Common.{◌≡◌, ℕ, zero, suc, ◌+◌, ◌<◌, ◌≤◌, List, [], ◌∷◌, ◌++◌, map, zero-add, length, ◌⊎◌, inl, inr, refl, sym, ap, ◌∙◌, subst, arith}
 use Rattle.std.proofs.lemmas.Bool.{cases_lt}
-use Rattle.std.proofs.lemmas.List.FromFn.{fill_by_all}
+use Rattle.std.specs.List.{range_with_len}
+use Rattle.std.proofs.lemmas.List.FromFn.{fill_by_all, map-range_with_len_more}
+use Rattle.compact_types.specs.declared.places.Point.{Point}
 use Rattle.compact_types.specs.declared.plan.Piece.{Piece}
 use Rattle.compact_types.specs.declared.plan.Plan.{Plan}
 use Rattle.compact_types.specs.declared.plan.Shape.{Shape}
@@ -11,7 +13,7 @@ use Rattle.compact_types.specs.Connected.{IsJoined, IsConnected, start, forward,
 use Rattle.compact_types.specs.Bests.{total_length, IsBest}
 use Rattle.drawing_check.proofs.ShapeLemmas.{same_plan, same_shape}
 use Rattle.compact_main.specs.Drawings.{IsRow}
-use Rattle.compact_main.specs.Rows.{row_piece, row_shape, row_places}
+use Rattle.compact_main.specs.Rows.{row_piece, row_point, row_shape, row_places}
 use Rattle.compact_main.proofs.ShortestRow.{row_is_best}
 
 -- the pieces go from each vertex to the next
@@ -66,3 +68,12 @@ pub row_best : (shape : Shape) → IsRow shape → IsConnected shape.plan → 0 
 row_best shape row connected some =
     subst (λ (s : Shape). IsBest total_length s (row_places shape.plan.vertices)) (sym (row_of shape row connected some))
     (row_is_best shape.plan.vertices some)
+
+-- one more point of a row
+pub row_more : (k next : ℕ) (xy : List Point) (point : Point) → next ≡ k + 1 → xy ≡ map row_point (range_with_len 0 k) → point ≡ row_point k →
+    xy ++ point ∷ [] ≡ map row_point (range_with_len 0 next)
+row_more k next xy point is so_far here =
+    ap (λ (points : List Point). points ++ point ∷ []) so_far
+    ∙ ap (λ (p : Point). map row_point (range_with_len 0 k) ++ p ∷ []) here
+    ∙ sym (map-range_with_len_more row_point 0 k k (zero-add k))
+    ∙ ap (λ (n : ℕ). map row_point (range_with_len 0 n)) (sym is)

@@ -16,8 +16,7 @@ use Rattle.compact_main.specs.Commands.{limit_of}
 use Rattle.compact_main.specs.Drawings.{HoldsDrawing, FirstTextFault, IsRow}
 
 -- the tree is written with the best places of its shape, which is a row; all else as it was read
-pub record DrawsRow (text : List ℕ) (tree : Tree) (reading : Reading) (shape : Shape) (places : Places) (written : List ℕ) : Type 0 where
-  pub drawing : HoldsDrawing text tree reading shape
+pub record DrawsRow (tree : Tree) (reading : Reading) (shape : Shape) (places : Places) (written : List ℕ) : Type 0 where
   pub row : IsRow shape
   pub best : IsBest total_length shape places
   pub printed : written ≡ printed (placed tree reading.spots places 1)
@@ -27,18 +26,16 @@ abbrev pub count_line : Plan → List ℕ
 count_line plan =
     codes "drawing: " ++ decimal plan.vertices ++ codes " vertices, " ++ decimal (length plan.pieces) ++ codes " pieces\n"
 
--- the vertices and pieces of the text's drawing are counted
-pub record CountsDrawing (text : List ℕ) (tree : Tree) (reading : Reading) (shape : Shape) (written : List ℕ) : Type 0 where
-  pub drawing : HoldsDrawing text tree reading shape
-  pub counted : written ≡ count_line reading.plan
-
--- what is written for a text that the command accepts
+-- what is written for a text that the command accepts, by the drawing that it holds
 abbrev pub Output : Command → List ℕ → List ℕ → Type 0
 Output Draw text written =
     (length text ≤ limit_of Draw)
-    × (tree : Tree) × (reading : Reading) × (shape : Shape) × (places : Places) × DrawsRow text tree reading shape places written
+    × (tree : Tree) × (reading : Reading) × (shape : Shape) × HoldsDrawing text tree reading shape
+    × (places : Places) × DrawsRow tree reading shape places written
 Output Check text written =
-    (length text ≤ limit_of Check) × (tree : Tree) × (reading : Reading) × (shape : Shape) × CountsDrawing text tree reading shape written
+    (length text ≤ limit_of Check)
+    × (tree : Tree) × (reading : Reading) × (shape : Shape) × HoldsDrawing text tree reading shape
+    × (written ≡ count_line reading.plan)
 
 -- the drawing that a text holds is one for the command
 abbrev pub IsBuilt : Command → Shape → Type 0

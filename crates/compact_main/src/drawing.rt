@@ -1,9 +1,9 @@
-ghost use Rattle.std.specs.Prelude.{◌≡◌, ◌≤◌, ◌↔◌, ℕ, length, IsTrue, IfOk};
+ghost use Rattle.std.specs.Prelude.{◌≡◌, ◌≤◌, length, IfOk};
 ghost use Rattle.compact_types.specs.Refusals.{IfFault};
-ghost use Rattle.compact_main.specs.Drawings.{HoldsDrawing, FirstTextFault, IsRow, gml_refusal, draw_refusal, shape_refusal};
+ghost use Rattle.compact_main.specs.Drawings.{HoldsDrawing, FirstTextFault, gml_refusal, draw_refusal, shape_refusal};
 
 use crate::status::Why;
-use compact_types::plan::{Shape, Way};
+use compact_types::plan::Shape;
 use compact_types::refusal::Refusal;
 use drawing_check::checking::check;
 use drawing_check::fault::ShapeFault;
@@ -76,19 +76,4 @@ fn as_shape(refusal: Refusal<ShapeFault>) -> Refusal<Why>
         Refusal::Fault(fault) => Refusal::Fault(Why::Shape(fault)),
         Refusal::NoMemory => Refusal::NoMemory,
     }
-}
-
-/// Whether every piece goes east from its vertex to the next.
-pub fn is_row(shape: &Shape) -> bool
-    ensures { IsTrue result ↔ IsRow shape.now }
-{
-    let pieces = shape.plan.pieces.as_slice();
-    let ways = shape.ways.as_slice();
-    for k in 0..pieces.len() {
-        let piece = pieces[k];
-        if piece.from as usize != k || piece.to as usize != k + 1 || ways[k] != Way::East {
-            return false;
-        }
-    }
-    true
 }

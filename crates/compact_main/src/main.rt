@@ -11,6 +11,7 @@ pub mod command;
 pub mod drawing;
 pub mod note;
 pub mod notify;
+pub mod rows;
 pub mod run;
 pub mod status;
 

@@ -1,24 +1,28 @@
 ghost use Rattle.std.specs.Prelude.{◌≡◌, ◌≤◌, ◌↔◌, ℕ, List, Some, length, IfOk};
 ghost use Rattle.compact_types.specs.Refusals.{IfFault};
+ghost use Rattle.compact_types.specs.Bests.{total_length, IsBest};
 ghost use Rattle.io_ends.specs.Counts.{Rose};
+ghost use Rattle.drawing_read.specs.Readings.{IsReading};
+ghost use Rattle.drawing_check.specs.Shapes.{IsShapeOf};
 ghost use Rattle.compact_main.specs.declared.command.Command.{Command};
 ghost use Rattle.compact_main.specs.declared.status.Why.{Why};
 ghost use Rattle.compact_main.specs.Commands.{texts_of, Asks, limit_of};
+ghost use Rattle.compact_main.specs.Drawings.{IsRow};
 ghost use Rattle.compact_main.specs.Notes.{note_text, IsNoted};
 ghost use Rattle.compact_main.specs.Outputs as outputs;
-ghost use Rattle.compact_main.specs.Outputs.{Output, FirstFault};
-ghost use Rattle.compact_main.specs.Rows as rows;
+ghost use Rattle.compact_main.specs.Outputs.{DrawsRow, Output, FirstFault};
 ghost use Rattle.compact_main.specs.Runs.{IsDone, IsBrokenOff, IsRefused, Completes};
 
 use crate::command::{Command, command_of};
-use crate::drawing::{drawing_of, is_row};
+use crate::drawing::{Drawing, drawing_of};
 use crate::notify::notify;
+use crate::rows::best_places;
 use crate::status::{Status, Why};
 use compact_types::items::Items;
-use compact_types::places::{Places, Point};
+use compact_types::places::Places;
 use compact_types::plan::Plan;
 use compact_types::refusal::{NoMemory, Refusal};
-use gml_print::places::put_places;
+use gml_print::places::with_places;
 use gml_print::print::print_tree;
 use io_ends::sink::Sink;
 use io_ends::source::Source;
@@ -26,30 +30,31 @@ use io_ends::transfer::{ReadEnd, read_all, write_all};
 use itoa::Buffer;
 use std::alloc::Global;
 
-/// The places (0, 0), (1, 0), .. of a row of vertices.
-fn row_places(alloc: Global, vertices: u32) -> Result<Places, NoMemory>
-    ensures { IfOk result (λ places. places ≡ rows.row_places vertices) }
+/// The tree of the drawing, printed with the best places of its shape, which is a row.
+fn drawn(alloc: Global, drawing: Drawing, places: &Places) -> Result<Items<u8>, NoMemory>
+    requires read { IsReading drawing.tree drawing.reading }
+    requires shape { IsShapeOf drawing.reading.plan drawing.reading.places drawing.shape }
+    requires row { IsRow drawing.shape }
+    requires best { IsBest total_length drawing.shape places.now }
+    ensures { IfOk result (DrawsRow drawing.tree drawing.reading drawing.shape places.now) }
 {
-    let mut xy = Items::new(alloc);
-    for k in 0..vertices {
-        xy.push(Point { x: k as i64, y: 0 })?;
-    }
-    Ok(Places { xy })
+    let Drawing { tree, reading, .. } = drawing;
+    let tree = with_places(alloc, tree, &reading, places, 1)?;
+    print_tree(alloc, &tree)
 }
 
 /// The text of the tree with the shortest places of its shape, where that is a row.
+#[tactic(auto, using(crate::proofs::DrawnRows::some_vertex))]
 fn draw(alloc: Global, bytes: &[u8]) -> Result<Items<u8>, Refusal<Why>>
     requires { length bytes.now ≤ limit_of Command.Draw }
     ensures output { IfOk result (λ written. Output Command.Draw bytes.now written) }
     ensures fault { IfFault result (FirstFault Command.Draw bytes.now) }
 {
     let drawing = drawing_of(alloc, bytes)?;
-    if !is_row(&drawing.shape) {
-        return Err(Refusal::Fault(Why::NotYet));
+    match best_places(alloc, &drawing.shape)? {
+        Some(places) => Ok(drawn(alloc, drawing, &places)?),
+        None => Err(Refusal::Fault(Why::NotYet)),
     }
-    let places = row_places(alloc, drawing.reading.plan.vertices)?;
-    let tree = put_places(alloc, &drawing.tree, &drawing.reading, &places, 1)?;
-    Ok(print_tree(alloc, &tree)?)
 }
 
 /// How many vertices and pieces the text's drawing has.

@@ -55,24 +55,41 @@ fn faulty<'a>(text: &'a [u8], kind: GmlKind, at: u32, note: &'a [u8]) -> Run<'a>
     ended(text, Status::Refused(Why::Gml(GmlFault { at, kind })), note)
 }
 
-fn assert_run(rt: &impl Abort, alloc: Global, run: &Run) -> Result<(), Fail> {
-    let mut words = Vec::new(alloc);
-    for word in run.words {
-        words.push(String::from_str(alloc, word)?)?;
+/// The words as the program is given them.
+fn words_of(alloc: Global, words: &[&str]) -> Result<Vec<String>, AllocError> {
+    let mut list = Vec::new(alloc);
+    for word in words {
+        list.push(String::from_str(alloc, word)?)?;
     }
+    Ok(list)
+}
+
+/// A sink with so much room whose writes of `failing` fail.
+fn sink_of(alloc: Global, room: usize, failing: &[u64]) -> Result<MemorySink, Fail> {
+    let failing = Vec::from_slice(alloc, failing)?;
+    MemorySink::new(alloc, room, 7, failing).map_err(|_| "room".into())
+}
+
+fn assert_run(rt: &impl Abort, alloc: Global, run: &Run) -> Result<(), Fail> {
+    let words = words_of(alloc, run.words)?;
     let text = Vec::from_slice(alloc, run.text)?;
     let mut source = MemorySource::new(text, 16, Vec::from_slice(alloc, run.failing)?);
-    let mut out = MemorySink::new(alloc, run.room, 7, Vec::new(alloc))
-        .ok()
-        .ok_or("room")?;
-    let mut notes = MemorySink::new(alloc, 100, 100, Vec::new(alloc))
-        .ok()
-        .ok_or("room")?;
+    let mut out = sink_of(alloc, run.room, &[])?;
+    let mut notes = sink_of(alloc, 100, &[])?;
     let status = run_alone(alloc, words.as_slice(), &mut source, &mut out, &mut notes);
     assert_eq!(rt; status, run.status);
     assert_eq!(rt; out.bytes(), run.written);
     assert_eq!(rt; notes.bytes(), run.note);
     Ok(())
+}
+
+/// How a run on a long text ends.
+fn status_of(alloc: Global, words: &[&str], text: &[u8]) -> Result<Status, Fail> {
+    let words = words_of(alloc, words)?;
+    let mut source = PlainSource::new(text);
+    let mut out = sink_of(alloc, 200_000, &[])?;
+    let mut notes = sink_of(alloc, 100, &[])?;
+    Ok(run_alone(alloc, words.as_slice(), &mut source, &mut out, &mut notes))
 }
 
 /// A run of `draw --plain` on a text whose tree is no drawing, or whose places are none.
@@ -233,93 +250,90 @@ fn refuses_places_that_are_no_drawing(rt: HostRuntime) -> Result<(), Fail> {
     Ok(())
 }
 
+/// Texts without a tree, with their first faults and what the user is told.
+const NO_GML: [(&[u8], GmlKind, u32, &[u8]); 8] = [
+    (
+        b"a b",
+        GmlKind::BadValue,
+        2,
+        b"refused: bad value at byte 2\n",
+    ),
+    (
+        b"a 1.2.3",
+        GmlKind::BadNumeral,
+        2,
+        b"refused: bad numeral at byte 2\n",
+    ),
+    (
+        b"a \"x",
+        GmlKind::OpenString,
+        2,
+        b"refused: string not closed at byte 2\n",
+    ),
+    (b"1a 2", GmlKind::BadKey, 0, b"refused: bad key at byte 0\n"),
+    (
+        b"a-b 1",
+        GmlKind::BadKey,
+        0,
+        b"refused: bad key at byte 0\n",
+    ),
+    (
+        b"graph [",
+        GmlKind::OpenList,
+        6,
+        b"refused: list not closed at byte 6\n",
+    ),
+    (
+        b"]",
+        GmlKind::StrayClose,
+        0,
+        b"refused: stray close at byte 0\n",
+    ),
+    (
+        LISTS_65,
+        GmlKind::TooDeep,
+        129,
+        b"refused: too deep at byte 129\n",
+    ),
+];
+
 #[test]
 fn refuses_what_is_no_gml(rt: HostRuntime) -> Result<(), Fail> {
-    let cases = [
-        faulty(
-            b"a b",
-            GmlKind::BadValue,
-            2,
-            b"refused: bad value at byte 2\n",
-        ),
-        faulty(
-            b"a 1.2.3",
-            GmlKind::BadNumeral,
-            2,
-            b"refused: bad numeral at byte 2\n",
-        ),
-        faulty(
-            b"a \"x",
-            GmlKind::OpenString,
-            2,
-            b"refused: string not closed at byte 2\n",
-        ),
-        faulty(b"1a 2", GmlKind::BadKey, 0, b"refused: bad key at byte 0\n"),
-        faulty(
-            b"a-b 1",
-            GmlKind::BadKey,
-            0,
-            b"refused: bad key at byte 0\n",
-        ),
-        faulty(
-            b"graph [",
-            GmlKind::OpenList,
-            6,
-            b"refused: list not closed at byte 6\n",
-        ),
-        faulty(
-            b"]",
-            GmlKind::StrayClose,
-            0,
-            b"refused: stray close at byte 0\n",
-        ),
-        faulty(
-            LISTS_65,
-            GmlKind::TooDeep,
-            129,
-            b"refused: too deep at byte 129\n",
-        ),
-        // The first bytes of a text, up to an id and up to its key.
-        faulty(
-            &TWO_NODES[..21],
-            GmlKind::OpenList,
-            15,
-            b"refused: list not closed at byte 15\n",
-        ),
-        faulty(
-            &TWO_NODES[..19],
-            GmlKind::BadValue,
-            19,
-            b"refused: bad value at byte 19\n",
-        ),
-    ];
-    for case in &cases {
-        assert_run(&rt, rt.alloc(), case)?;
+    for (text, kind, at, note) in NO_GML {
+        assert_run(&rt, rt.alloc(), &faulty(text, kind, at, note))?;
     }
-    Ok(())
+    // The first bytes of a text, up to an id and up to its key.
+    let up_to_id = faulty(
+        &TWO_NODES[..21],
+        GmlKind::OpenList,
+        15,
+        b"refused: list not closed at byte 15\n",
+    );
+    let up_to_key = faulty(
+        &TWO_NODES[..19],
+        GmlKind::BadValue,
+        19,
+        b"refused: bad value at byte 19\n",
+    );
+    assert_run(&rt, rt.alloc(), &up_to_id)?;
+    assert_run(&rt, rt.alloc(), &up_to_key)
 }
 
 #[test]
 fn a_note_that_cannot_be_written_changes_no_status(rt: HostRuntime) -> Result<(), Fail> {
     let alloc = rt.alloc();
-    let failing = Vec::from_slice(alloc, &[1])?;
-    let mut out = MemorySink::new(alloc, 10, 10, Vec::new(alloc))
-        .ok()
-        .ok_or("room")?;
-    let mut notes = MemorySink::new(alloc, 100, 100, failing)
-        .ok()
-        .ok_or("room")?;
-    let words = vec![in alloc;
-        String::from_str(alloc, "draw")?,
-        String::from_str(alloc, "--plain")?,
-    ]?;
-    let mut source = PlainSource::new(b"]");
+    let words = words_of(alloc, PLAIN)?;
+    let mut source = PlainSource::new(CROSSING);
+    let mut out = sink_of(alloc, 10, &[])?;
+    let mut notes = sink_of(alloc, 100, &[1])?;
     let status = run_alone(alloc, words.as_slice(), &mut source, &mut out, &mut notes);
-    let fault = GmlFault {
-        at: 0,
-        kind: GmlKind::StrayClose,
+    let fault = ShapeFault::Meeting {
+        p: 0,
+        q: 1,
+        x: 5000,
+        y: 0,
     };
-    assert_eq!(rt; status, Status::Refused(Why::Gml(fault)));
+    assert_eq!(rt; status, Status::Refused(Why::Shape(fault)));
     assert_eq!(rt; notes.bytes(), b"".as_slice());
     Ok(())
 }
@@ -342,45 +356,24 @@ fn row_text(alloc: Global, nodes: u32) -> Result<String, AllocError> {
 
 #[test]
 fn reads_up_to_a_thousand_vertices(rt: HostRuntime) -> Result<(), Fail> {
-    let alloc = rt.alloc();
     let many = Why::Draw(DrawFault::TooManyVertices(1001));
     for (nodes, status) in [(1000, Status::Done), (1001, Status::Refused(many))] {
-        let text = row_text(alloc, nodes)?;
-        let mut out = MemorySink::new(alloc, 200_000, 4096, Vec::new(alloc))
-            .ok()
-            .ok_or("room")?;
-        let mut notes = MemorySink::new(alloc, 100, 100, Vec::new(alloc))
-            .ok()
-            .ok_or("room")?;
-        let words = vec![in alloc;
-            String::from_str(alloc, "draw")?,
-            String::from_str(alloc, "--plain")?,
-        ]?;
-        let mut source = PlainSource::new(text.as_bytes());
-        let ended = run_alone(alloc, words.as_slice(), &mut source, &mut out, &mut notes);
-        assert_eq!(rt; ended, status);
+        let text = row_text(rt.alloc(), nodes)?;
+        assert_eq!(rt; status_of(rt.alloc(), PLAIN, text.as_bytes())?, status);
     }
     Ok(())
 }
 
 #[test]
 fn refuses_a_text_past_the_limit(rt: HostRuntime) -> Result<(), Fail> {
-    let alloc = rt.alloc();
     let long = Status::Refused(Why::TooLong);
     for (length, status) in [(4_194_304usize, Status::Done), (4_194_305, long)] {
-        let mut text = Vec::from_slice(alloc, TWO_NODES)?;
-        let hashes = vec![in alloc; b'#'; length.saturating_sub(TWO_NODES.len())]?;
+        let mut text = Vec::from_slice(rt.alloc(), TWO_NODES)?;
+        let hashes = vec![in rt.alloc(); b'#'; length.saturating_sub(TWO_NODES.len())]?;
         text.extend_from_slice(hashes.as_slice())?;
-        let mut out = MemorySink::new(alloc, 1000, 1000, Vec::new(alloc))
-            .ok()
-            .ok_or("room")?;
-        let mut notes = MemorySink::new(alloc, 100, 100, Vec::new(alloc))
-            .ok()
-            .ok_or("room")?;
-        let words = vec![in alloc; String::from_str(alloc, "check")?]?;
-        let mut source = PlainSource::new(text.as_slice());
-        let ended = run_alone(alloc, words.as_slice(), &mut source, &mut out, &mut notes);
-        assert_eq!(rt; ended, status);
+        for words in [PLAIN, &["check"]] {
+            assert_eq!(rt; status_of(rt.alloc(), words, text.as_slice())?, status);
+        }
     }
     Ok(())
 }

@@ -6,8 +6,6 @@ returns-clause-output c = (
   c.in_ok-drawing.drawing.tree,
   c.in_ok-drawing.drawing.reading,
   c.in_ok-drawing.drawing.shape,
-  record {
-    drawing = c.in_ok-drawing.ensures.drawing;
-    counted = c.in_ok-count_line.ensures;
-  },
+  c.in_ok-drawing.ensures.drawing,
+  c.in_ok-count_line.ensures,
 )
