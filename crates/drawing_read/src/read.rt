@@ -108,74 +108,89 @@ mod tests {
         }
     }
 
+    /// Nodes: none where one is asked for, and nodes without an id, a good one, one of their own, or a place.
+    const NODE_FAULTS: [(&[u8], DrawFault); 11] = [
+        (b"", DrawFault::NoGraph),
+        (b"graph 1 Graph [ ]", DrawFault::NoGraph),
+        (b"graph [ ] graph [ ]", DrawFault::TwoGraphs),
+        (b"graph [ ]", DrawFault::Empty),
+        (
+            b"graph [ node [ id 1 graphics [ x 0 y 0 ] ] node [ ] ]",
+            DrawFault::NoId(1),
+        ),
+        (b"graph [ node [ id 1.0 id 1 ] ]", DrawFault::BadId(0)),
+        (
+            b"graph [ node [ id 9223372036854775808 ] ]",
+            DrawFault::BadId(0),
+        ),
+        (
+            b"graph [ node [ id 1 ] node [ id +01 ] edge [ source 1 target 9 ] ]",
+            DrawFault::RepeatedId(1),
+        ),
+        (
+            b"graph [ node [ id 1 graphics [ x 0 y \"0\" ] ] ]",
+            DrawFault::NoPlace(0),
+        ),
+        (
+            b"graph [ node [ id 1 graphics 1 graphics [ x 0 y 0 ] ] ]",
+            DrawFault::NoPlace(0),
+        ),
+        (b"graph [ node [ id 1 ] edge [ ] ]", DrawFault::NoPlace(0)),
+    ];
+
     #[test]
-    fn faults(rt: HostRuntime) {
-        let cases: [(&[u8], DrawFault); 18] = [
-            (b"", DrawFault::NoGraph),
-            (b"graph 1 Graph [ ]", DrawFault::NoGraph),
-            (b"graph [ ] graph [ ]", DrawFault::TwoGraphs),
-            (b"graph [ ]", DrawFault::Empty),
-            (
-                b"graph [ node [ id 1 graphics [ x 0 y 0 ] ] node [ ] ]",
-                DrawFault::NoId(1),
-            ),
-            (b"graph [ node [ id 1.0 id 1 ] ]", DrawFault::BadId(0)),
-            (
-                b"graph [ node [ id 9223372036854775808 ] ]",
-                DrawFault::BadId(0),
-            ),
-            (
-                b"graph [ node [ id 1 ] node [ id +01 ] edge [ source 1 target 9 ] ]",
-                DrawFault::RepeatedId(1),
-            ),
-            (
-                b"graph [ node [ id 1 graphics [ x 0 y \"0\" ] ] ]",
-                DrawFault::NoPlace(0),
-            ),
-            (
-                b"graph [ node [ id 1 graphics 1 graphics [ x 0 y 0 ] ] ]",
-                DrawFault::NoPlace(0),
-            ),
-            (
-                b"graph [ node [ id 0 graphics [ x 0.1234 y 0 ] ] ]",
-                DrawFault::BadNumber {
-                    at: 33,
-                    cause: NumberFault::TooFine,
-                },
-            ),
-            (
-                b"graph [ edge [ graphics [ Line [ point [ x 1e400 y 0 ] ] ] ] node [ id 0 graphics [ x 0.1234 y 0 ] ] ]",
-                DrawFault::BadNumber {
-                    at: 43,
-                    cause: NumberFault::OutOfRange,
-                },
-            ),
-            (
-                b"graph [ node [ id 1 graphics [ x 0 y 0 ] ] edge [ source 1 target 1.0 ] ]",
-                DrawFault::NoEnd(0),
-            ),
-            (
-                b"graph [ edge [ source 1 target 9 ] node [ id 1 graphics [ x 0 y 0 ] ] ]",
-                DrawFault::UnknownEnd(0),
-            ),
-            (
-                b"graph [ node [ id 1 graphics [ x 0 y 0 ] ] edge [ source 1 target 99999999999999999999 ] ]",
-                DrawFault::UnknownEnd(0),
-            ),
-            (
-                b"graph [ node [ id 1 graphics [ x 0 y 0 ] ] edge [ source 1 target 1 ] \
-                edge [ source 1 target 1 graphics [ Line [ point [ x 1 y 2 ] point 1 ] ] ] ]",
-                DrawFault::BadPoint { edge: 1, point: 1 },
-            ),
-            (
-                b"graph [ node [ id 1 graphics [ x 0 y 0 ] ] edge [ source 1 target 1 graphics [ Line [ point [ x 1 ] ] ] ] ]",
-                DrawFault::BadPoint { edge: 0, point: 0 },
-            ),
-            (b"graph [ node [ id 1 ] edge [ ] ]", DrawFault::NoPlace(0)),
-        ];
-        for (text, fault) in cases {
+    fn faults_of_nodes(rt: HostRuntime) {
+        for (text, fault) in NODE_FAULTS {
             assert_eq!(rt; fault_in(&rt, rt.alloc(), text), Some(fault));
         }
+    }
+
+    /// Edges of a graph whose one node has id 1: without an end, with an end that is no node's id, with a bad point.
+    const EDGE_FAULTS: [(&[u8], DrawFault); 5] = [
+        (b"edge [ source 1 target 1.0 ]", DrawFault::NoEnd(0)),
+        (b"edge [ source 1 target 9 ]", DrawFault::UnknownEnd(0)),
+        (
+            b"edge [ source 1 target 99999999999999999999 ]",
+            DrawFault::UnknownEnd(0),
+        ),
+        (
+            b"edge [ source 1 target 1 ] edge [ source 1 target 1 graphics [ Line [ point [ x 1 y 2 ] point 1 ] ] ]",
+            DrawFault::BadPoint { edge: 1, point: 1 },
+        ),
+        (
+            b"edge [ source 1 target 1 graphics [ Line [ point [ x 1 ] ] ] ]",
+            DrawFault::BadPoint { edge: 0, point: 0 },
+        ),
+    ];
+
+    #[test]
+    fn faults_of_edges(rt: HostRuntime) -> Result<(), Fail> {
+        for (edges, fault) in EDGE_FAULTS {
+            let mut text = Vec::from_slice(rt.alloc(), b"graph [ ")?;
+            text.extend_from_slice(edges)?;
+            text.extend_from_slice(b" node [ id 1 graphics [ x 0 y 0 ] ] ]")?;
+            assert_eq!(rt; fault_in(&rt, rt.alloc(), text.as_slice()), Some(fault));
+        }
+        Ok(())
+    }
+
+    #[test]
+    fn numbers_out_of_form(rt: HostRuntime) {
+        let too_fine = DrawFault::BadNumber {
+            at: 33,
+            cause: NumberFault::TooFine,
+        };
+        let text = b"graph [ node [ id 0 graphics [ x 0.1234 y 0 ] ] ]";
+        assert_eq!(rt; fault_in(&rt, rt.alloc(), text), Some(too_fine));
+
+        // That of a point stands before that of the node, although its edge has no ends.
+        let out_of_range = DrawFault::BadNumber {
+            at: 43,
+            cause: NumberFault::OutOfRange,
+        };
+        let text =
+            b"graph [ edge [ graphics [ Line [ point [ x 1e400 y 0 ] ] ] ] node [ id 0 graphics [ x 0.1234 y 0 ] ] ]";
+        assert_eq!(rt; fault_in(&rt, rt.alloc(), text), Some(out_of_range));
     }
 
     #[test]
