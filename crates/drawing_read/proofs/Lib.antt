@@ -9,3 +9,10 @@ pub mod FaultOrder
 pub mod EndLemmas
 pub mod GraphLemmas
 pub mod ReadingLemmas
+pub mod CoordinateSpots
+pub mod PointSpots
+pub mod ListSpots
+pub mod CoordinateCases
+pub mod PathOrder
+pub mod InsideOrder
+pub mod SpotOrder

@@ -5,5 +5,6 @@ pub mod WrittenGraphs
 pub mod DrawFaults
 pub mod Routes
 pub mod Spots
+pub mod Coordinates
 pub mod Readings
 pub mod Passes

@@ -11,6 +11,7 @@ pub mod fault;
 mod faults;
 mod graphs;
 mod ids;
+pub mod law;
 mod lookup;
 mod nodes;
 mod numbers;
