@@ -2,12 +2,11 @@
 use Rattle.std.proofs.Common.{◌≡◌, ℕ, zero, suc, ◌+◌, arith, Bool, true, false, cond, List, [], ◌∷◌, ◌++◌, length, take, Option, None, Some, inl, inr, ◌⊎◌, refl, sym, ap, ◌∙◌, subst, Contains, filter}
 use Rattle.std.specs.Prelude.{codes}
 use Rattle.std.specs.Option.{option_map_or}
-use Rattle.std.proofs.lemmas.Option.{same_Some}
 use Rattle.std.proofs.lemmas.List.Elements.{Contains-append_left, Contains-append_right, Contains-append_cases}
 use Rattle.gml_text.specs.declared.tree.Pair.{Pair}
 use Rattle.drawing_read.specs.declared.reading.Spot.{Spot}
 use Rattle.drawing_read.specs.declared.route.Span.{Span}
-use Rattle.drawing_read.specs.Lookups.{has_key, list_in}
+use Rattle.drawing_read.specs.Lookups.{has_key, list_in, list_under}
 use Rattle.drawing_read.specs.Spots.{coordinate_spots, point_vertex, point_spots}
 use Rattle.drawing_read.specs.Coordinates.{IsPointNumber}
 use Rattle.drawing_read.proofs.CoordinateSpots.{none_there}
@@ -16,15 +15,26 @@ use Rattle.drawing_read.proofs.CoordinateSpots.{none_there}
 abbrev is_point : Pair → Bool
 is_point = has_key (codes "point")
 
+-- a pair with the key and a list is a point
+point_of_list : (pair : Pair) (point : List Pair) → is_point pair ≡ true → list_in pair.value ≡ Some point → list_under (codes "point") pair ≡ Some point
+point_of_list pair point passes is = ap (λ (b : Bool). cond b (list_in pair.value) None) passes ∙ is
+
+-- a point is a pair with the key and a list
+list_of_point : (pair : Pair) (point : List Pair) → list_under (codes "point") pair ≡ Some point → (is_point pair ≡ true) × (list_in pair.value ≡ Some point)
+list_of_point pair point there = by_test (is_point pair) refl there
+  where
+    by_test : (b : Bool) → is_point pair ≡ b → cond b (list_in pair.value) None ≡ Some point → (is_point pair ≡ true) × (list_in pair.value ≡ Some point)
+    by_test true passes is = (passes, is)
+    by_test false fails is = absurd (cc)
+
 -- the first pair of a line is its first point
 point_here : (pair : Pair) (pairs point : List Pair) → is_point pair ≡ true → list_in pair.value ≡ Some point → IsPointNumber (pair ∷ pairs) 0 0 point
-point_here pair pairs point passes is = record { key = ap (λ (b : Bool). Some b) passes; there = is; before = refl }
+point_here pair pairs point passes is = record { there = point_of_list pair point passes is; before = refl }
 
 -- behind one more point the number of a point is greater by one
 point_behind_point : (pair : Pair) (pairs point : List Pair) (q k : ℕ) → is_point pair ≡ true → IsPointNumber pairs q k point →
     IsPointNumber (pair ∷ pairs) (suc q) (suc k) point
 point_behind_point pair pairs point q k passes number = record {
-  key = number.key;
   there = number.there;
   before = ap (λ (b : Bool). length (cond b (pair ∷ filter is_point (take q pairs)) (filter is_point (take q pairs)))) passes ∙ ap suc number.before;
 }
@@ -33,7 +43,6 @@ point_behind_point pair pairs point q k passes number = record {
 point_behind_other : (pair : Pair) (pairs point : List Pair) (q k : ℕ) → is_point pair ≡ false → IsPointNumber pairs q k point →
     IsPointNumber (pair ∷ pairs) (suc q) k point
 point_behind_other pair pairs point q k fails number = record {
-  key = number.key;
   there = number.there;
   before = ap (λ (b : Bool). length (cond b (pair ∷ filter is_point (take q pairs)) (filter is_point (take q pairs)))) fails ∙ number.before;
 }
@@ -127,7 +136,8 @@ spot_of_number : (path : List ℕ) (span : Span) (at p : ℕ) (pairs : List Pair
     Contains (coordinate_spots (path ++ place ∷ []) (point_vertex span index) point) s → Contains (point_spots path span at p pairs) s
 spot_of_number path span at p [] s from number place index point place_is index_is is there = let none : None ≡ Some point = is.there in absurd (cc)
 spot_of_number path span at p (pair ∷ pairs) s zero number place index point place_is index_is is there =
-    let passes : is_point pair ≡ true = same_Some (is_point pair) true is.key in
+    let passes : is_point pair ≡ true = (list_of_point pair point is.there).0 in
+    let list : list_in pair.value ≡ Some point = (list_of_point pair point is.there).1 in
     let place_same : place ≡ at = omega arith in
     let none : 0 ≡ number = is.before in
     let index_same : index ≡ p = omega arith in
@@ -136,7 +146,7 @@ spot_of_number path span at p (pair ∷ pairs) s zero number place index point p
     subst (λ (a : ℕ). Contains (first_spots path span a p (Some point)) s) place_same
     (subst (λ (i : ℕ). Contains (first_spots path span place i (Some point)) s) index_same there) in
     let same : tested path span at p (list_in pair.value) pairs (is_point pair) ≡ tested path span at p (Some point) pairs true =
-    ap (λ (o : Option (List Pair)). tested path span at p o pairs (is_point pair)) is.there ∙ ap (tested path span at p (Some point) pairs) passes in
+    ap (λ (o : Option (List Pair)). tested path span at p o pairs (is_point pair)) list ∙ ap (tested path span at p (Some point) pairs) passes in
     let P : List Spot → Type 0 = λ spots. Contains spots s in
     subst P (sym same) (Contains-append_left (first_spots path span at p (Some point)) rest s first)
 spot_of_number path span at p (pair ∷ pairs) s (suc from) number place index point place_is index_is is there =
@@ -153,10 +163,10 @@ spot_of_number path span at p (pair ∷ pairs) s (suc from) number place index p
         let before_is : suc m ≡ number = before in
         subst P (sym (ap (tested path span at p (list_in pair.value) pairs) passes))
         (Contains-append_right (first_spots path span at p (list_in pair.value)) (point_spots path span (at + 1) (p + 1) pairs) s
-        (one m (omega arith) (record { key = is.key; there = is.there; before = refl })))
+        (one m (omega arith) (record { there = is.there; before = refl })))
     by_test false fails before one more =
         let P : List Spot → Type 0 = λ spots. Contains spots s in
-        subst P (sym (ap (tested path span at p (list_in pair.value) pairs) fails)) (more number index_is (record { key = is.key; there = is.there; before = before }))
+        subst P (sym (ap (tested path span at p (list_in pair.value) pairs) fails)) (more number index_is (record { there = is.there; before = before }))
 
 -- each spot of a point is one of the points' spots
 pub spot_of_point : (path : List ℕ) (span : Span) (at p : ℕ) (pairs : List Pair) (s : Spot) → IsOfPoint path span at p pairs s → Contains (point_spots path span at p pairs) s

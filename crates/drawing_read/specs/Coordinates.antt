@@ -1,16 +1,15 @@
 -- Where the coordinates of a drawing stand, by cases on their paths: a second form of its spots.
-use Rattle.std.specs.Prelude.{◌≡◌, ℕ, ◌<◌, ◌⊎◌, true, List, [], ◌∷◌, ◌++◌, length, take, slice_get, slice_index_or, Some, option_and_then, codes, All}
+use Rattle.std.specs.Prelude.{◌≡◌, ℕ, ◌<◌, ◌⊎◌, List, [], ◌∷◌, ◌++◌, length, take, slice_get, slice_index_or, Some, option_and_then, codes, All}
 use Rattle.std.specs.List.{filter}
-use Rattle.std.specs.Option.{option_map}
 use Rattle.gml_text.specs.declared.tree.Pair.{Pair}
 use Rattle.compact_types.specs.declared.places.Axis.{Axis}
 use Rattle.compact_types.specs.declared.places.Axis.TheVariants.{X, Y}
 use Rattle.drawing_read.specs.declared.reading.Spot.{Spot}
 use Rattle.drawing_read.specs.declared.route.Span.{Span}
-use Rattle.drawing_read.specs.Lookups.{has_key, list_in, list_under, lists_under, first_list, place_under}
+use Rattle.drawing_read.specs.Lookups.{has_key, list_under, lists_under, first_list, place_under}
 use Rattle.drawing_read.specs.Spots.{point_vertex, no_span}
 
--- the list at this place under this key, of which so many stand before it
+-- the list at this place under this key, and how many such lists stand before it
 pub record IsListNumber (key : List ℕ) (pairs : List Pair) (at number : ℕ) (list : List Pair) : Type 0 where
   pub there : option_and_then (list_under key) (slice_get pairs at) ≡ Some list
   pub before : length (lists_under key (take at pairs)) ≡ number
@@ -20,10 +19,9 @@ pub record IsListAt (key : List ℕ) (pairs : List Pair) (at : ℕ) (list : List
   pub place : place_under key pairs ≡ Some at
   pub there : first_list key pairs ≡ Some list
 
--- the point at this place of a line, of which so many stand before it
+-- the point at this place of a line, and how many points stand before it, lists or not
 pub record IsPointNumber (line : List Pair) (at number : ℕ) (point : List Pair) : Type 0 where
-  pub key : option_map (has_key (codes "point")) (slice_get line at) ≡ Some true
-  pub there : option_and_then (λ pair. list_in pair.value) (slice_get line at) ≡ Some point
+  pub there : option_and_then (list_under (codes "point")) (slice_get line at) ≡ Some point
   pub before : length (filter (has_key (codes "point")) (take at line)) ≡ number
 
 -- the x and the y of a list stand at these places
