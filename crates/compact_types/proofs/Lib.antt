@@ -1,1 +1,3 @@
 pub mod OneBest
+pub mod SumLemmas
+pub mod AxisLemmas

@@ -8,5 +8,6 @@ pub mod Connected
 pub mod Drawings
 pub mod Sums
 pub mod Lengths
+pub mod Axes
 pub mod Orders
 pub mod Bests

@@ -4,9 +4,11 @@
 //! and what an answer with a refusal says.
 #![tactic(auto)]
 
+pub mod axes;
 pub mod bests;
 pub mod items;
 pub mod places;
 pub mod plan;
 pub mod refusal;
 pub mod segment;
+pub mod sums;

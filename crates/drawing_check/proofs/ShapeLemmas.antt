@@ -17,6 +17,7 @@ use Rattle.compact_types.specs.Refusals.{Gives, IfFault}
 use Rattle.compact_types.specs.Ways.{HasWay}
 use Rattle.compact_types.specs.Drawings.{begin_of, end_of, IsCrossingFree}
 use Rattle.compact_types.specs.Connected.{IsConnected}
+use Rattle.compact_types.proofs.AxisLemmas.{one_way}
 use Rattle.drawing_check.specs.declared.fault.ShapeFault.{ShapeFault}
 use Rattle.drawing_check.specs.declared.fault.ShapeFault.TheVariants.{ZeroPiece, Slanted, Disconnected, Meeting}
 use Rattle.drawing_check.specs.Courses.{HasNoLength, IsSlanted, AllHaveWays, AreWays}
@@ -25,7 +26,7 @@ use Rattle.drawing_check.specs.Meetings.{Meets, IsApart, IsFirstMeeting}
 use Rattle.drawing_check.specs.Faults.{IsFirst, IsFirstApart, FirstShapeFault}
 use Rattle.drawing_check.specs.Shapes.{IsShapeOf}
 use Rattle.drawing_check.proofs.SpanLemmas.{same_point}
-use Rattle.drawing_check.proofs.WayLemmas.{one_way, way_apart, way_not_slanted}
+use Rattle.drawing_check.proofs.WayLemmas.{way_apart, way_not_slanted}
 use Rattle.drawing_check.proofs.MeetingLemmas.{no_meeting_in_drawing, crossing_free_from_apart}
 
 -- a plan and a shape of their parts

@@ -1,5 +1,5 @@
 -- Ways, lengths and slants of pieces.
-use Rattle.std.proofs.Common.{◌≡◌, ℕ, ◌+◌, ◌<◌, ◌≤◌, List, [], ◌∷◌, ◌++◌, length, ◌⊎◌, inl, inr, subst, sym, ap, ◌∙◌, refl, arith}
+use Rattle.std.proofs.Common.{◌≡◌, ℕ, ◌+◌, ◌<◌, ◌≤◌, List, [], ◌∷◌, ◌++◌, length, ◌⊎◌, inl, inr, subst, sym, ap, ◌∙◌, arith}
 use Rattle.std.proofs.lemmas.Int.{ints, by_lt_z}
 use Rattle.std.proofs.lemmas.Bool.{cases_lt}
 use Rattle.std.proofs.lemmas.List.{length_push, get_or_push, get_or_append_left}
@@ -48,25 +48,6 @@ way_apart a b East goes same = let x : a.x ≡ b.x = ap (λ (p : Point). p.x) sa
 way_apart a b West goes same = let x : a.x ≡ b.x = ap (λ (p : Point). p.x) same in omega (arith, ints)
 way_apart a b High goes same = let y : a.y ≡ b.y = ap (λ (p : Point). p.y) same in omega (arith, ints)
 way_apart a b Low goes same = let y : a.y ≡ b.y = ap (λ (p : Point). p.y) same in omega (arith, ints)
-
--- two points have one way at most
-pub one_way : (a b : Point) (v w : Way) → HasWay v a b → HasWay w a b → v ≡ w
-one_way a b East East p q = refl
-one_way a b East West p q = absurd (omega (arith, ints))
-one_way a b East High p q = absurd (omega (arith, ints))
-one_way a b East Low p q = absurd (omega (arith, ints))
-one_way a b West West p q = refl
-one_way a b West East p q = absurd (omega (arith, ints))
-one_way a b West High p q = absurd (omega (arith, ints))
-one_way a b West Low p q = absurd (omega (arith, ints))
-one_way a b High High p q = refl
-one_way a b High East p q = absurd (omega (arith, ints))
-one_way a b High West p q = absurd (omega (arith, ints))
-one_way a b High Low p q = absurd (omega (arith, ints))
-one_way a b Low Low p q = refl
-one_way a b Low East p q = absurd (omega (arith, ints))
-one_way a b Low West p q = absurd (omega (arith, ints))
-one_way a b Low High p q = absurd (omega (arith, ints))
 
 -- the pieces below n have these ways
 abbrev pub HaveWaysBelow : Plan → Places → List Way → ℕ → Type 0
