@@ -34,7 +34,7 @@ row_within n few v axis below =
     (sym (get_or-map-range_with_len row_point 0 n v v origin inside (zero-add v))) (row_point_within n v axis few inside)
 
 -- a drawing that was read has a vertex
-pub some_vertex : (tree : Tree) (reading : Reading) (shape : Shape) → IsReading tree reading → IsShapeOf reading.plan reading.places shape → 0 < shape.plan.vertices
+some_vertex : (tree : Tree) (reading : Reading) (shape : Shape) → IsReading tree reading → IsShapeOf reading.plan reading.places shape → 0 < shape.plan.vertices
 some_vertex tree reading shape read is =
     subst (λ (p : Plan). 0 < p.vertices) (sym is.same_plan) (reading_can_be_checked tree reading read).some_vertex
 

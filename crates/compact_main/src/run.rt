@@ -44,7 +44,6 @@ fn drawn(alloc: Global, drawing: Drawing, places: &Places) -> Result<Items<u8>, 
 }
 
 /// The text of the tree with the shortest places of its shape, where that is a row.
-#[tactic(auto, using(crate::proofs::DrawnRows::some_vertex))]
 fn draw(alloc: Global, bytes: &[u8]) -> Result<Items<u8>, Refusal<Why>>
     requires { length bytes.now ≤ limit_of Command.Draw }
     ensures output { IfOk result (λ written. Output Command.Draw bytes.now written) }
