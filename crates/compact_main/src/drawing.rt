@@ -1,5 +1,6 @@
 ghost use Rattle.std.specs.Prelude.{◌≡◌, ◌≤◌, length, IfOk};
 ghost use Rattle.compact_types.specs.Refusals.{IfFault};
+ghost use Rattle.gml_text.specs.Texts.{most_bytes};
 ghost use Rattle.compact_main.specs.Drawings.{HoldsDrawing, FirstTextFault, gml_refusal, draw_refusal, shape_refusal};
 
 use crate::status::Why;
@@ -25,7 +26,7 @@ pub struct Drawing {
 
 /// The drawing that the text holds, or the first fault of a text that holds none.
 pub fn drawing_of(alloc: Global, bytes: &[u8]) -> Result<Drawing, Refusal<Why>>
-    requires { length bytes.now ≤ 4194304 }
+    requires { length bytes.now ≤ most_bytes }
     ensures drawing { IfOk result (λ found. HoldsDrawing bytes.now found.tree found.reading found.shape) }
     ensures fault { IfFault result (FirstTextFault bytes.now) }
 {

@@ -6,7 +6,7 @@ use Rattle.compact_types.specs.declared.refusal.Refusal.TheVariants.{Fault, NoMe
 use Rattle.gml_text.specs.declared.fault.GmlFault.{GmlFault}
 use Rattle.gml_text.specs.declared.tree.Tree.{Tree}
 use Rattle.gml_text.specs.Faults.{FirstFault, HasOneAnswer}
-use Rattle.gml_text.specs.Texts.{Spells}
+use Rattle.gml_text.specs.Texts.{most_bytes, Spells}
 use Rattle.gml_text.specs.Trees.{is_within_grammar}
 use Rattle.gml_text.specs.Grammar.{IsReadable}
 use Rattle.gml_text.specs.Reading.{answer_of}
@@ -48,6 +48,6 @@ pub given-within : (text : List ℕ) (result : Result Tree (Refusal GmlFault)) �
 given-within text (Ok tree) e = is_within_grammar-spelled text tree (subst (Answers text) e (answer_of-right text))
 given-within text (Err refusal) e = tt
 
-pub given-readable : (text : List ℕ) (result : Result Tree (Refusal GmlFault)) → length text ≤ 67108864 → Gives result (answer_of text) → IfOk result (λ tree. IsReadable tree)
+pub given-readable : (text : List ℕ) (result : Result Tree (Refusal GmlFault)) → length text ≤ most_bytes → Gives result (answer_of text) → IfOk result (λ tree. IsReadable tree)
 given-readable text (Ok tree) short e = readable-spelled text tree short (subst (Answers text) e (answer_of-right text))
 given-readable text (Err refusal) short e = tt

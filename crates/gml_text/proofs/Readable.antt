@@ -9,7 +9,7 @@ use Rattle.gml_text.specs.declared.tree.Pair.{Pair}
 use Rattle.gml_text.specs.declared.tree.Value.{Value}
 use Rattle.gml_text.specs.declared.tree.Value.TheVariants.{Inner}
 use Rattle.gml_text.specs.Bytes.{is_key}
-use Rattle.gml_text.specs.Texts.{most_depth, Pairs, OnePair, HasValue, no_more, a_space, a_comment, one_more, a_pair, a_whole_numeral, a_real_numeral, a_string, a_list, IsText, to_the_end, in_a_comment, Spells}
+use Rattle.gml_text.specs.Texts.{most_bytes, most_depth, Pairs, OnePair, HasValue, no_more, a_space, a_comment, one_more, a_pair, a_whole_numeral, a_real_numeral, a_string, a_list, IsText, to_the_end, in_a_comment, Spells}
 use Rattle.gml_text.specs.Trees.{is_within, is_within_grammar}
 use Rattle.gml_text.specs.Grammar.{has_right_words, pair_count, IsReadable}
 use Rattle.gml_text.proofs.Fronts.{and-left, and-right, and-both}
@@ -87,7 +87,7 @@ text-counted (in_a_comment text pairs words h ends lack) = omega (arith, pairs-c
 pub pair_count-spelled : (text : List ℕ) (tree : Tree) → Spells text tree → pair_count tree ≤ length text
 pair_count-spelled text tree h = omega (arith, text-counted h, pair_count-pairs tree)
 
-pub readable-spelled : (text : List ℕ) (tree : Tree) → length text ≤ 67108864 → Spells text tree → IsReadable tree
+pub readable-spelled : (text : List ℕ) (tree : Tree) → length text ≤ most_bytes → Spells text tree → IsReadable tree
 readable-spelled text tree short h = record {
   grammar = has_right_words-within tree (is_within_grammar-spelled text tree h);
   few = omega (arith, pair_count-spelled text tree h);

@@ -9,6 +9,7 @@ use Rattle.gml_text.specs.declared.tree.Value.TheOpen.{Whole, Real, Text, Inner}
 use Rattle.gml_text.specs.Bytes.{is_key}
 use Rattle.gml_text.specs.Numerals.{is_whole_numeral}
 use Rattle.gml_text.specs.NumeralKinds.{is_numeral}
+use Rattle.gml_text.specs.Texts.{most_bytes}
 
 -- a whole number is written as a whole numeral, another number as a numeral, and a list is right in itself
 abbrev pub value_has_right_words : Value-F Bool Bool Bool → Bool
@@ -48,7 +49,7 @@ pairs_in_list tree = sum tree.pairs
 abbrev pub pair_count : Tree → ℕ
 pair_count = fold-Tree ℕ ℕ ℕ pairs_in_value pairs_with_value pairs_in_list
 
--- a tree as one that is read from a text of at most 67,108,864 bytes
+-- a tree as one that is read from a text of at most so many bytes
 pub record IsReadable (tree : Tree) : Type 0 where
   pub grammar : has_right_words tree ≡ true
-  pub few : pair_count tree ≤ 67108864
+  pub few : pair_count tree ≤ most_bytes

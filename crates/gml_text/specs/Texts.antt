@@ -12,6 +12,10 @@ use Rattle.gml_text.specs.Numerals.{is_whole_numeral, IsRealNumeral}
 abbrev pub most_depth : ℕ
 most_depth = 64
 
+-- the most bytes of a text that is read, 64 MiB
+abbrev pub most_bytes : ℕ
+most_bytes = 67108864
+
 mutual
   -- a text that begins at an offset inside so many open lists is a list of pairs, white space and comments
   pub data Pairs : (depth offset : ℕ) → List ℕ → List Pair → Type 0 where

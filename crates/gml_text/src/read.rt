@@ -4,7 +4,7 @@ ghost use Rattle.gml_text.specs.declared.fault.GmlFault.{GmlFault};
 ghost use Rattle.gml_text.specs.declared.tree.Tree.{Tree};
 ghost use Rattle.gml_text.specs.Faults.{FirstFault, HasOneAnswer};
 ghost use Rattle.gml_text.specs.Grammar.{IsReadable};
-ghost use Rattle.gml_text.specs.Texts.{Spells};
+ghost use Rattle.gml_text.specs.Texts.{most_bytes, Spells};
 ghost use Rattle.gml_text.specs.Trees.{is_within_grammar};
 
 use crate::fault::GmlFault;
@@ -13,9 +13,9 @@ use crate::tree::Tree;
 use compact_types::refusal::Refusal;
 use std::alloc::Global;
 
-/// The tree of a text, or its first fault.
+/// The tree of a text of at most 64 MiB, or its first fault; offsets count from 0.
 pub fn read_tree(alloc: Global, bytes: &[u8]) -> Result<Tree, Refusal<GmlFault>>
-    requires { length bytes.now ≤ 67108864 }
+    requires { length bytes.now ≤ most_bytes }
     // What is answered is so.
     ensures tree { IfOk result (λ tree. Spells bytes.now tree) }
     ensures fault { IfFault result (λ fault. FirstFault bytes.now fault) }

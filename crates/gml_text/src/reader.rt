@@ -1,6 +1,7 @@
 ghost use Rattle.std.specs.Prelude.{◌≡◌, ◌+◌, ◌<◌, ◌≤◌, length, IfOk};
 ghost use Rattle.compact_types.specs.Refusals.{Gives};
 ghost use Rattle.gml_text.specs.Reading.{answer_of};
+ghost use Rattle.gml_text.specs.Texts.{most_bytes};
 
 mod steps;
 
@@ -33,7 +34,7 @@ pub(crate) struct Reader {
 
 /// The tree of the text or its first fault, in one pass over it.
 pub(crate) fn read(alloc: Global, bytes: &[u8]) -> Result<Tree, Refusal<GmlFault>>
-    requires { length bytes.now ≤ 67108864 }
+    requires { length bytes.now ≤ most_bytes }
     ensures { Gives result (answer_of bytes.now) }
 {
     let mut reader = Reader {

@@ -1,6 +1,7 @@
 ghost use Rattle.std.specs.Prelude.{◌≡◌, ◌+◌, ◌<◌, ◌≤◌, length, IfOk, slice_index};
 ghost use Rattle.std.specs.List.{slice_get};
 ghost use Rattle.compact_types.specs.Refusals.{Gives};
+ghost use Rattle.gml_text.specs.Texts.{most_bytes};
 ghost use Rattle.gml_text.specs.Reading.{finish, IsStep, IsForward, state_of, with_pair, step_of, after_comment, close_list, read_pair, read_value, read_string, read_numeral, begin_list};
 
 use crate::bytes::{begins_numeral, is_key, is_space, length_before, space_length, word_length};
@@ -19,7 +20,7 @@ const MOST_DEPTH: usize = 64;
 #[tactic(auto, unfolding(crate::specs::Reading::step_of))]
 pub(crate) fn step(alloc: Global, reader: Reader, text: &[u8]) -> Result<Reader, Refusal<GmlFault>>
     requires some { 0 < length text.now }
-    requires within { reader.at + length text.now ≤ 67108864 }
+    requires within { reader.at + length text.now ≤ most_bytes }
     ensures step { IsStep result (step_of (state_of reader) text.now) }
     ensures forward { IsForward result (reader.at + 1) (reader.at + length text.now) }
 {
@@ -63,7 +64,7 @@ fn fault(at: u32, kind: GmlKind) -> Refusal<GmlFault>
 
 fn comment(reader: Reader, text: &[u8]) -> Reader
     requires some { 0 < length text.now }
-    requires within { reader.at + length text.now ≤ 67108864 }
+    requires within { reader.at + length text.now ≤ most_bytes }
     ensures step { state_of result ≡ after_comment (state_of reader) text.now }
     ensures forward { (reader.at + 1 ≤ result.at) × (result.at ≤ reader.at + length text.now) }
 {
@@ -76,7 +77,7 @@ fn comment(reader: Reader, text: &[u8]) -> Reader
 }
 
 fn close(reader: Reader) -> Result<Reader, Refusal<GmlFault>>
-    requires { reader.at < 67108864 }
+    requires { reader.at < most_bytes }
     ensures step { IsStep result (close_list (state_of reader)) }
     ensures forward { IsForward result (reader.at + 1) (reader.at + 1) }
 {
@@ -100,7 +101,7 @@ fn close(reader: Reader) -> Result<Reader, Refusal<GmlFault>>
 }
 
 fn pair(alloc: Global, reader: Reader, text: &[u8]) -> Result<Reader, Refusal<GmlFault>>
-    requires { reader.at + length text.now ≤ 67108864 }
+    requires { reader.at + length text.now ≤ most_bytes }
     ensures step { IsStep result (read_pair (state_of reader) text.now) }
     ensures forward { IsForward result (reader.at + 1) (reader.at + length text.now) }
 {
@@ -120,7 +121,7 @@ fn value(
     at: u32,
     text: &[u8],
 ) -> Result<Reader, Refusal<GmlFault>>
-    requires { at + length text.now ≤ 67108864 }
+    requires { at + length text.now ≤ most_bytes }
     ensures step { IsStep result (read_value (state_of reader) key.now at text.now) }
     ensures forward { IsForward result at (at + length text.now) }
 {
@@ -148,7 +149,7 @@ fn string(
     text: &[u8],
 ) -> Result<Reader, Refusal<GmlFault>>
     requires some { 0 < length text.now }
-    requires within { at + length text.now ≤ 67108864 }
+    requires within { at + length text.now ≤ most_bytes }
     ensures step { IsStep result (read_string (state_of reader) key.now at text.now) }
     ensures forward { IsForward result at (at + length text.now) }
 {
@@ -163,7 +164,7 @@ fn string(
 }
 
 fn open(alloc: Global, reader: Reader, key: &[u8], at: u32) -> Result<Reader, Refusal<GmlFault>>
-    requires { at < 67108864 }
+    requires { at < most_bytes }
     ensures step { IsStep result (begin_list (state_of reader) key.now at) }
     ensures forward { IsForward result (at + 1) (at + 1) }
 {
@@ -192,7 +193,7 @@ fn numeral(
     text: &[u8],
 ) -> Result<Reader, Refusal<GmlFault>>
     requires some { 0 < length text.now }
-    requires within { at + length text.now ≤ 67108864 }
+    requires within { at + length text.now ≤ most_bytes }
     ensures step { IsStep result (read_numeral (state_of reader) key.now at text.now) }
     ensures forward { IsForward result at (at + length text.now) }
 {
