@@ -94,16 +94,16 @@ pub record AreApart (plan : Plan) (places : Places) (n : ℕ) : Type 0 where
   pub apart : (p q : ℕ) → p < n → p < q → q < length plan.pieces → IsApart plan places p q
 
 -- the first partner of the first piece that has one is the first meeting
-pub first_from_partner : (plan : Plan) (places : Places) (p : ℕ) (meeting : Meeting) → IsFirstPartner plan places p meeting →
-    AreApart plan places p → IsFirstMeeting plan places meeting.first meeting.second meeting.point
-first_from_partner plan places p meeting partner earlier =
+pub first_from_partner : (plan : Plan) (places : Places) (n p : ℕ) (meeting : Meeting) → p ≡ n → IsFirstPartner plan places p meeting →
+    AreApart plan places n → IsFirstMeeting plan places meeting.first meeting.second meeting.point
+first_from_partner plan places n p meeting same partner earlier =
     subst (λ (first : ℕ). IsFirstMeeting plan places first meeting.second meeting.point) (sym partner.is_first)
     (record { in_order = partner.in_order; in_plan = partner.in_plan; least = partner.least; first = λ i j order inside before. before_none i j order inside before })
   where
     before_none : (i j : ℕ) → i < j → j < length plan.pieces → IsPairBefore i j p meeting.second → (w : Point) → Meets plan places i j w → ⊥
-    before_none i j order inside (inl less) = no_meeting plan places i j (earlier.apart i j less order inside)
-    before_none i j order inside (inr same) = no_meeting plan places i j
-        (subst (λ (k : ℕ). IsApart plan places k j) (sym same.0) (partner.earlier j (omega arith) same.1))
+    before_none i j order inside (inl less) = no_meeting plan places i j (earlier.apart i j (omega arith) order inside)
+    before_none i j order inside (inr equal) = no_meeting plan places i j
+        (subst (λ (k : ℕ). IsApart plan places k j) (sym equal.0) (partner.earlier j (omega arith) equal.1))
 
 -- one more piece is apart
 pub apart_one_more : (plan : Plan) (places : Places) (p n : ℕ) → ((q : ℕ) → p < q → q < n → IsApart plan places p q) → IsApart plan places p n →
