@@ -1,3 +1,13 @@
 pub mod OneBest
 pub mod SumLemmas
 pub mod AxisLemmas
+pub mod PlanLemmas
+pub mod OrderLemmas
+pub mod CompareLemmas
+pub mod EndLemmas
+pub mod LengthLemmas
+pub mod MoveLemmas
+pub mod GroupLemmas
+pub mod AnswerLemmas
+pub mod CornerLemmas
+pub mod Laws

@@ -14,11 +14,11 @@ pub compare_numbers : (a b : ℤ) → (a <ℤ b) ⊎ ((a ≡ b) ⊎ (b <ℤ a))
 compare_numbers a b = by_lt_z a b (λ less. inl less)
     (λ not_less. by_lt_z b a (λ more. inr (inr more)) (λ not_more. inr (inl (omega (arith, ints)))))
 
-same_point : (p q : Point) → p.x ≡ q.x → p.y ≡ q.y → p ≡ q
+pub same_point : (p q : Point) → p.x ≡ q.x → p.y ≡ q.y → p ≡ q
 same_point p q x y = λ i. record { x = x i; y = y i }
 
 -- two lists of points: one has the lesser numbers at the first difference, or they are equal
-abbrev Compared : List Point → List Point → Type 0
+abbrev pub Compared : List Point → List Point → Type 0
 Compared ps qs = IsListBefore (numbers_of ps) (numbers_of qs) ⊎ ((ps ≡ qs) ⊎ IsListBefore (numbers_of qs) (numbers_of ps))
 
 compared_at : (p q : Point) (ps qs : List Point) →
@@ -39,7 +39,7 @@ compare_points (p ∷ ps) [] same = absurd (omega arith)
 compare_points (p ∷ ps) (q ∷ qs) same =
     compared_at p q ps qs (compare_numbers p.x q.x) (compare_numbers p.y q.y) (compare_points ps qs (omega arith))
 
-same_places : (p q : Places) → p.xy ≡ q.xy → p ≡ q
+pub same_places : (p q : Places) → p.xy ≡ q.xy → p ≡ q
 same_places p q same = λ i. record { xy = same i }
 
 -- neither key comes before the other
@@ -59,6 +59,6 @@ same_keys k l long not_before not_after = by_worth (compare_numbers k.worth l.wo
 pub one_best : (objective : Objective) (shape : Shape) (p q : Places) → IsBest objective shape p → IsBest objective shape q → p ≡ q
 one_best objective shape p q best_p best_q =
     same_keys (key_of objective shape p) (key_of objective shape q)
-    (best_p.drawing.places_fit ∙ sym best_q.drawing.places_fit)
+    (best_p.drawing.crossing_free.places_fit ∙ sym best_q.drawing.crossing_free.places_fit)
     (best_q.none_before p best_p.drawing best_p.from_zero)
     (best_p.none_before q best_q.drawing best_q.from_zero)

@@ -37,4 +37,5 @@ high_end Low piece = piece.from
 -- the sum over the pieces of how far apart their ends are along the axis
 abbrev pub length_along : Axis → Plan → Places → ℤ
 length_along axis plan places =
-    sum_to (λ i. gap (along axis (begin_of plan places i)) (along axis (end_of plan places i))) (length plan.pieces)
+    sum_to (λ i. gap (along axis (begin_of plan places i)) (along axis (end_of plan places i)))
+    (length plan.pieces)

@@ -27,4 +27,5 @@ pub record IsBest (objective : Objective) (shape : Shape) (places : Places) : Ty
 
 -- some drawing of the shape is worth this
 abbrev pub IsAttained : Objective → Shape → ℤ → Type 0
-IsAttained objective shape worth = (places : Places) × IsDrawing shape places × (worth_of objective shape places ≡ worth)
+IsAttained objective shape worth =
+    (places : Places) × IsDrawing shape places × (worth_of objective shape places ≡ worth)

@@ -15,6 +15,11 @@ gap a b = int_max (b -ℤ a) (a -ℤ b)
 abbrev pub distance : Point → Point → ℤ
 distance a b = gap a.x b.x +ℤ gap a.y b.y
 
--- the sum over the pieces of the distance of their ends
+-- the plain length: the sum over the pieces of the distance of their ends
+abbrev pub plain_length_of : Plan → Places → ℤ
+plain_length_of plan places =
+    sum_to (λ i. distance (begin_of plan places i) (end_of plan places i)) (length plan.pieces)
+
+-- the length that is made least: each piece counts with the distance of its ends
 abbrev pub length_of : Plan → Places → ℤ
-length_of plan places = sum_to (λ i. distance (begin_of plan places i) (end_of plan places i)) (length plan.pieces)
+length_of plan places = plain_length_of plan places

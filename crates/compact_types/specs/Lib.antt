@@ -1,9 +1,12 @@
 pub mod formers
 pub mod Lending
 pub mod Refusals
+pub mod Mapping
+pub mod Stages
 pub mod Lookups
 pub mod Ways
 pub mod Segments
+pub mod Magnitudes
 pub mod Connected
 pub mod Drawings
 pub mod Sums
@@ -11,3 +14,8 @@ pub mod Lengths
 pub mod Axes
 pub mod Orders
 pub mod Bests
+pub mod Moves
+pub mod Groups
+pub mod Rooms
+pub mod LendingRoom
+pub mod inner

@@ -54,4 +54,5 @@ HaveSameEnds p q = ((p.from ≡ q.from) × (p.to ≡ q.to)) ⊎ ((p.from ≡ q.t
 -- the ends of every piece are vertices
 abbrev pub EndsAreVertices : ℕ → List Piece → Type 0
 EndsAreVertices vertices pieces =
-    (i : ℕ) → i < length pieces → ((piece_at pieces i).from < vertices) × ((piece_at pieces i).to < vertices)
+    (i : ℕ) → i < length pieces →
+    ((piece_at pieces i).from < vertices) × ((piece_at pieces i).to < vertices)

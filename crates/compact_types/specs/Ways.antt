@@ -4,7 +4,8 @@ use Rattle.compact_types.specs.declared.places.Point.{Point}
 use Rattle.compact_types.specs.declared.plan.Way.{Way}
 use Rattle.compact_types.specs.declared.plan.Way.TheVariants.{East, West, High, Low}
 
--- a piece from the first point to the second goes this way: exactly one coordinate differs, in its direction
+-- a piece from the first point to the second goes this way: exactly one coordinate differs, in its
+-- direction
 abbrev pub HasWay : Way → Point → Point → Type 0
 HasWay East a b = (a.x <ℤ b.x) × (b.y ≡ a.y)
 HasWay West a b = (b.x <ℤ a.x) × (b.y ≡ a.y)

@@ -7,19 +7,22 @@ ghost use Rattle.compact_types.specs.declared.places.Places.{Places};
 ghost use Rattle.compact_types.specs.declared.plan.Piece.{Piece};
 ghost use Rattle.compact_types.specs.declared.plan.Plan.{Plan};
 ghost use Rattle.compact_types.specs.declared.plan.Way.{Way};
-ghost use Rattle.compact_types.specs.Axes.{DifferInOne, IsStraight, low_end, high_end, length_along};
+ghost use Rattle.compact_types.specs.Axes.{DifferInOne, IsStraight, low_end, high_end};
+ghost use Rattle.compact_types.specs.Axes.{length_along};
 ghost use Rattle.compact_types.specs.Lengths.{length_of};
 ghost use Rattle.compact_types.specs.Lookups.{place, axis_of};
 ghost use Rattle.compact_types.specs.Ways.{HasWay};
 
-/// A piece has a way exactly where one coordinate of its ends differs, and then it has one alone. It has this way
-/// exactly where its low end stands before its high end along the way's axis, and level with it across.
+/// A piece has a way exactly where one coordinate of its ends differs, and then it has one alone.
+/// It has this way exactly where its low end stands before its high end along the way's axis, and
+/// level with it across.
 pub fn ways_by_axes()
     ensures some { (a b : Point) → DifferInOne a b ↔ ((way : Way) × HasWay way a b) }
     ensures only { (v w : Way) (a b : Point) → HasWay v a b → HasWay w a b → v ≡ w }
     ensures ends { (way : Way) (piece : Piece) (places : List Point) →
         HasWay way (place places piece.from) (place places piece.to)
-        ↔ IsStraight (axis_of way) (place places (low_end way piece)) (place places (high_end way piece)) }
+        ↔ IsStraight (axis_of way)
+        (place places (low_end way piece)) (place places (high_end way piece)) }
 {}
 
 /// The length of a drawing is the sum of its lengths along the two axes.

@@ -1,5 +1,8 @@
+//! Why a call gave no answer.
+
 ghost use Rattle.std.specs.Prelude.{◌≡◌};
-ghost use Rattle.compact_types.specs.declared.refusal.Refusal.TheVariants.{NoMemory as no_memory_refusal};
+ghost use Rattle.compact_types.specs.Mapping.{ForFault, IsMapped};
+ghost use Rattle.compact_types.specs.declared.refusal.Refusal.TheVariants as refusals;
 
 use std::alloc::{AllocError, AllocFailed};
 
@@ -19,17 +22,35 @@ impl<T: Drop> From<AllocFailed<T>> for NoMemory {
     }
 }
 
-/// Why a call gave no answer: a fault of its input, or a want of memory that says nothing of the input.
+/// Why a call gave no answer: a fault of its input, or a want of memory that says nothing of the
+/// input.
 #[derive(Clone, Copy, Debug, PartialEq, Eq)]
 pub enum Refusal<F> {
     Fault(F),
     NoMemory,
 }
 
+impl<F> Refusal<F> {
+    /// The refusal with its fault told by `tell`, mostly as one of more kinds of faults. A want of
+    /// memory stays one.
+    pub fn map<G, M: FnOnce(F) -> G>(self, tell: M) -> Refusal<G>
+        requires { ForFault self (M.pre tell) }
+        ensures { IsMapped self (M.post tell) result }
+    {
+        match self {
+            Refusal::Fault(fault) => Refusal::Fault(tell(fault)),
+            Refusal::NoMemory => Refusal::NoMemory,
+        }
+    }
+}
+
 impl<F> From<NoMemory> for Refusal<F> {
-    ghost from_gives = { λ _ refusal. refusal ≡ no_memory_refusal };
+    ghost from_gives = { λ _ refusal. refusal ≡ refusals.NoMemory };
 
     fn from(_refused: NoMemory) -> Refusal<F> {
         Refusal::NoMemory
     }
 }
+
+#[cfg(test)]
+mod tests;

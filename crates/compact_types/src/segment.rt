@@ -1,3 +1,5 @@
+//! Points on the segment between two others.
+
 ghost use Rattle.std.specs.Prelude.{◌≡◌, ◌↔◌, ◌⊎◌, IsTrue};
 ghost use Rattle.compact_types.specs.Segments.{IsBetween, OnSegment};
 

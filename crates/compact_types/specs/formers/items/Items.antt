@@ -33,20 +33,29 @@ the_empty = []
 abbrev pub the_items : (X : Type 0) → List X → List X
 the_items X values = values
 
-pub the_items_listed : (X : Type 0) (values : List X) → listed _ (children (the_former this) X values) ≡ the_items X values
+pub the_items_listed : (X : Type 0) (values : List X) →
+    listed _ (children (the_former this) X values) ≡ the_items X values
 the_items_listed X values = list-listed X values
 
 -- the one field, a `Vec` with the same values
 abbrev in_vec : Former {0}
-in_vec = via (vec.the_former this Global) Inside (λ X fields. fields.items) (λ X items. record { items = items }) (λ X fields. refl) (λ X items. refl)
+in_vec = via (vec.the_former this Global) Inside (λ X fields. fields.items)
+    (λ X items. record { items = items }) (λ X fields. refl) (λ X items. refl)
 
 module _ (R S : RattleType) (h : R.Denot → S.Denot) where
-  pub the_places : Alike R S h → Alike (contracts.the_row R) (contracts.the_row S) ((the_former this).map R.Denot S.Denot h)
-  the_places alike = view_places in_vec (list this) view (λ X Y k fields. refl) (λ X fields. refl) R.Denot S.Denot h
-      (contracts.the_row R).coded (contracts.the_row S).coded (invariant R.Denot) (invariant S.Denot)
-      (λ fields p q. refl) (λ fields p q. refl) (λ fields e. tt) (λ fields e. tt) (over (inside.the_row R)) (over (inside.the_row S))
-      (struct_places (inside.the_type R) (inside.the_type S) (vec.mapped h, tt) _ (λ values. refl) refl
+  pub the_places : Alike R S h →
+      Alike (contracts.the_row R) (contracts.the_row S) ((the_former this).map R.Denot S.Denot h)
+  the_places alike = view_places in_vec (list this) view
+      (λ X Y k fields. refl) (λ X fields. refl) R.Denot S.Denot h
+      (contracts.the_row R).coded (contracts.the_row S).coded
+      (invariant R.Denot) (invariant S.Denot)
+      (λ fields p q. refl) (λ fields p q. refl) (λ fields e. tt) (λ fields e. tt)
+      (over (inside.the_row R)) (over (inside.the_row S))
+      (struct_places (inside.the_type R) (inside.the_type S) (vec.mapped h, tt) _
+      (λ values. refl) refl
       (laid _ _ _ (vec.the_places heap.the_row ghosts R S h alike), tt))
 
-  pub the_codes_placed : Recodes R S h → Recodes (contracts.the_row R) (contracts.the_row S) ((the_former this).map R.Denot S.Denot h)
-  the_codes_placed recodes values = sym (code_map R.coded.code S.coded.code h (λ value. sym (recodes value)) values)
+  pub the_codes_placed : Recodes R S h →
+      Recodes (contracts.the_row R) (contracts.the_row S) ((the_former this).map R.Denot S.Denot h)
+  the_codes_placed recodes values =
+      sym (code_map R.coded.code S.coded.code h (λ value. sym (recodes value)) values)

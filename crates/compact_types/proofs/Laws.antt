@@ -1,0 +1,18 @@
+-- The laws of this crate as plain lemmas. The proofs of the crates above import this module alone.
+
+-- exact answers: from two right halves, in other words, and in two stages
+pub use Rattle.compact_types.proofs.AnswerLemmas.{decides_by_one_answer, one_answer_alike, one_answer_in_two_stages}
+-- plans, shapes, points and places with the same parts
+pub use Rattle.compact_types.proofs.PlanLemmas.{plan_of, shape_of, same_plan, same_shape}
+pub use Rattle.compact_types.proofs.OneBest.{same_point, same_places}
+-- the ends of pieces
+pub use Rattle.compact_types.proofs.EndLemmas.{end_is_vertex, read_ends}
+-- ways and axes
+pub use Rattle.compact_types.proofs.AxisLemmas.{SomeWay, some_way, way_differs, one_way, straight_from_way, way_from_straight}
+-- sums
+pub use Rattle.compact_types.proofs.SumLemmas.{sum_to-split, sum_to-add, sum_to-scale, sum_to-same, sum_to-changed, sum_to-nothing, sum_to-exchange, sum_to-not_greater}
+-- the order of keys, and the best drawing
+pub use Rattle.compact_types.proofs.OneBest.{compare_numbers, one_best}
+pub use Rattle.compact_types.proofs.OrderLemmas.{list_not_before_itself, list_before_trans, not_before_itself, before_trans, same_key, before_or_equal}
+-- moves
+pub use Rattle.compact_types.proofs.MoveLemmas.{length-moved, place-moved, moved_back, moved_there, places_moved_back, places_moved_twice, begin-moved, end-moved, crossing_free-moved, drawing-moved, gap-moved, distance-moved, plain_length-moved, difference-moved, distance_places-moved, some_from_zero, one_shift, one_from_zero}
