@@ -1,34 +1,29 @@
--- What holds of a read, by its answer.
-use Rattle.std.specs.Prelude.{ℕ}
+-- What one read gives.
+use Rattle.std.specs.Prelude.{ℕ, ◌<◌, ◌≤◌, List, Option, length, take}
+use Rattle.std.specs.Io.KnownBytes.{Consumes, Keeps, IsAtEnd}
+use Rattle.io_ends.specs.Counts.{Counted, Uncounted}
 use Rattle.io_ends.specs.declared.source.Step.{Step}
 use Rattle.io_ends.specs.declared.source.Step.TheVariants.{Got, End, Failed}
 
--- what holds of the number of bytes, where some were given
-abbrev pub IfGot : Step → (ℕ → Type 0) → Type 0
-IfGot (Got count) P = P count
-IfGot End P = Unit {0}
-IfGot Failed P = Unit {0}
+-- what holds of the number of bytes that were given, where nothing is left, and where the read
+-- failed
+abbrev pub MatchStep : Step → (ℕ → Type 0) → Type 0 → Type 0 → Type 0
+MatchStep (Got count) P Q R = P count
+MatchStep End P Q R = Q
+MatchStep Failed P Q R = R
 
--- what holds where no bytes were given
-abbrev pub UnlessGot : Step → Type 0 → Type 0
-UnlessGot (Got count) P = Unit {0}
-UnlessGot End P = P
-UnlessGot Failed P = P
+-- the bytes at the front of the slice, at least one, are the next that the source had left
+pub record GivesNext (left left' : Option (List ℕ)) (into : List ℕ) (count : ℕ) : Type 0 where
+  pub some : 0 < count
+  pub fits : count ≤ length into
+  pub next : Consumes left left' (take count into)
 
--- what holds at the end
-abbrev pub OnEnd : Step → Type 0 → Type 0
-OnEnd (Got count) P = Unit {0}
-OnEnd End P = P
-OnEnd Failed P = Unit {0}
+-- nothing was given, since nothing is left
+pub record GivesNothing (left left' : Option (List ℕ)) : Type 0 where
+  pub end : IsAtEnd left'
+  pub kept : Keeps left left'
 
--- what holds where the read failed
-abbrev pub OnFailed : Step → Type 0 → Type 0
-OnFailed (Got count) P = Unit {0}
-OnFailed End P = Unit {0}
-OnFailed Failed P = P
-
--- what holds where the read did not fail
-abbrev pub UnlessFailed : Step → Type 0 → Type 0
-UnlessFailed (Got count) P = P
-UnlessFailed End P = P
-UnlessFailed Failed P = Unit {0}
+-- a fault is counted exactly where the read failed
+abbrev pub CountsStep : Step → ℕ → ℕ → Type 0
+CountsStep step before now =
+    MatchStep step (λ _. Uncounted before now) (Uncounted before now) (Counted before now)

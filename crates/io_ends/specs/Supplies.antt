@@ -4,7 +4,8 @@ use Rattle.io_ends.specs.Counts.{next_count}
 use Rattle.io_ends.specs.declared.source.Step.{Step}
 use Rattle.io_ends.specs.declared.source.Step.TheVariants.{Got, End, Failed}
 
--- the bytes that are left, the most that one call gives, the numbers of the calls that fail, and how many calls were made and failed
+-- the bytes that are left, the most that one call gives, the numbers of the calls that fail, and
+-- how many calls were made and failed
 pub record Supply : Type 0 where
   pub left : List ℕ
   pub piece : ℕ
@@ -14,7 +15,8 @@ pub record Supply : Type 0 where
 
 -- a supply that was not read from yet
 abbrev pub new_supply : List ℕ → ℕ → List ℕ → Supply
-new_supply bytes piece failing = record { left = bytes; piece = piece; failing = failing; calls = 0; faults = 0 }
+new_supply bytes piece failing =
+    record { left = bytes; piece = piece; failing = failing; calls = 0; faults = 0 }
 
 -- the next call is one of those that fail
 abbrev pub FailsNext : Supply → Type 0
@@ -26,6 +28,8 @@ share_of supply room = min (min (length supply.left) supply.piece) room
 
 -- the supply after a read with this answer
 abbrev pub after_read : Supply → Step → Supply
-after_read supply (Got count) = record supply { left = drop count supply.left; calls = next_count supply.calls }
+after_read supply (Got count) =
+    record supply { left = drop count supply.left; calls = next_count supply.calls }
 after_read supply End = record supply { calls = next_count supply.calls }
-after_read supply Failed = record supply { calls = next_count supply.calls; faults = next_count supply.faults }
+after_read supply Failed =
+    record supply { calls = next_count supply.calls; faults = next_count supply.faults }

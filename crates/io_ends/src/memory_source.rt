@@ -1,7 +1,8 @@
-ghost use Rattle.std.specs.Prelude.{◌≡◌, ◌↔◌, ◌<◌, ◌≤◌, length, take, min, Some};
-ghost use Rattle.std.specs.Io.KnownBytes.{Consumes, Keeps, IsAtEnd};
-ghost use Rattle.io_ends.specs.Counts.{Rose};
-ghost use Rattle.io_ends.specs.Steps.{IfGot, UnlessGot, OnEnd, OnFailed, UnlessFailed};
+//! Bytes in memory as a source.
+
+ghost use Rattle.std.specs.Prelude.{◌≡◌, ◌↔◌, ◌<◌, length, take, min, Some, ⊤};
+ghost use Rattle.std.specs.Io.KnownBytes.{Keeps};
+ghost use Rattle.io_ends.specs.Steps.{MatchStep, GivesNext, GivesNothing, CountsStep};
 ghost use Rattle.io_ends.specs.Supplies.{new_supply, FailsNext, share_of, after_read};
 
 use crate::source::{Source, Step};
@@ -25,14 +26,20 @@ impl Model for MemorySource {
 
     ghost Value = { Supply };
 
-    ghost view = { λ source. record { left = drop source.given source.bytes.items; piece = source.piece; failing = source.failing.items; calls = source.calls; faults = source.faults } };
+    ghost view = { λ source. record {
+      left = drop source.given source.bytes.items;
+      piece = source.piece;
+      failing = source.failing.items;
+      calls = source.calls;
+      faults = source.faults;
+    } };
 
     ghost invariant = { λ source. (source.given ≤ vec_len source.bytes) × (0 < source.piece) };
 }
 
 impl MemorySource {
-    /// A source of `bytes` that gives at most `piece` of them a call. The calls whose numbers, counted from 1,
-    /// stand in `failing` fail.
+    /// A source of `bytes` that gives at most `piece` of them a call. The calls whose numbers,
+    /// counted from 1, stand in `failing` fail.
     pub fn new(bytes: Vec<u8>, piece: usize, failing: Vec<u64>) -> MemorySource
         requires { 0 < piece }
         ensures { result ≡ new_supply bytes.items piece failing.items }
@@ -56,18 +63,16 @@ impl Source for MemorySource {
     fn read(&mut self, into: &mut [u8]) -> Step
         requires { 0 < length into.old }
         // What every source does.
-        ensures some { IfGot result (λ count. (0 < count) × (count ≤ length into.new)) }
-        ensures next { IfGot result
-            (λ count. Consumes (Some self.old.left) (Some self.new.left) (take count into.new)) }
-        ensures end { OnEnd result (IsAtEnd (Some self.new.left)) }
-        ensures kept { UnlessGot result (Keeps (Some self.old.left) (Some self.new.left)) }
-        ensures counted { OnFailed result (Rose self.old.faults self.new.faults) }
-        ensures uncounted { UnlessFailed result (self.new.faults ≡ self.old.faults) }
-        ensures never_falls { self.old.faults ≤ self.new.faults }
+        ensures moved { MatchStep result
+            (GivesNext (Some self.old.left) (Some self.new.left) into.new)
+            (GivesNothing (Some self.old.left) (Some self.new.left))
+            (Keeps (Some self.old.left) (Some self.new.left)) }
+        ensures counted { CountsStep result self.old.faults self.new.faults }
 
         // What this one does: when it fails, how much it gives, and what it counts.
         ensures fails { (result ≡ Step.Failed) ↔ FailsNext self.old }
-        ensures share { IfGot result (λ count. count ≡ share_of self.old (length into.old)) }
+        ensures share { MatchStep result
+            (λ count. count ≡ share_of self.old (length into.old)) ⊤ ⊤ }
         ensures after { self.new ≡ after_read self.old result }
     {
         self.calls = self.calls.saturating_add(1);

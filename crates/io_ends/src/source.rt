@@ -1,7 +1,8 @@
-ghost use Rattle.std.specs.Prelude.{◌≡◌, ℕ, ◌<◌, ◌≤◌, List, Option, length, take};
-ghost use Rattle.std.specs.Io.KnownBytes.{Consumes, Keeps, IsAtEnd};
-ghost use Rattle.io_ends.specs.Counts.{Rose};
-ghost use Rattle.io_ends.specs.Steps.{IfGot, UnlessGot, OnEnd, OnFailed, UnlessFailed};
+//! What bytes are read from.
+
+ghost use Rattle.std.specs.Prelude.{ℕ, ◌<◌, List, Option, length};
+ghost use Rattle.std.specs.Io.KnownBytes.{Keeps};
+ghost use Rattle.io_ends.specs.Steps.{MatchStep, GivesNext, GivesNothing, CountsStep};
 
 /// What one read answers.
 #[derive(Clone, Copy, Debug, PartialEq, Eq)]
@@ -25,17 +26,9 @@ pub trait Source {
     /// Puts the next bytes at the front of `into`, at least one.
     fn read(&mut self, into: &mut [u8]) -> Step
         requires { 0 < length into.old }
-        // What was given.
-        ensures some { IfGot result (λ count. (0 < count) × (count ≤ length into.new)) }
-        ensures next { IfGot result
-            (λ count. Consumes (left self.old) (left self.new) (take count into.new)) }
-
-        // Where nothing was given.
-        ensures end { OnEnd result (IsAtEnd (left self.new)) }
-        ensures kept { UnlessGot result (Keeps (left self.old) (left self.new)) }
-
-        // The count of faults.
-        ensures counted { OnFailed result (Rose (faults self.old) (faults self.new)) }
-        ensures uncounted { UnlessFailed result (faults self.new ≡ faults self.old) }
-        ensures never_falls { faults self.old ≤ faults self.new };
+        ensures moved { MatchStep result
+            (GivesNext (left self.old) (left self.new) into.new)
+            (GivesNothing (left self.old) (left self.new))
+            (Keeps (left self.old) (left self.new)) }
+        ensures counted { CountsStep result (faults self.old) (faults self.new) };
 }

@@ -1,3 +1,5 @@
+//! Readers and writers of std as sources and sinks.
+
 ghost use Rattle.std.specs.Prelude.{◌≡◌, None};
 
 use crate::sink::{Failed, Sink};
@@ -5,7 +7,8 @@ use crate::source::{Source, Step};
 use std::io::{Read, Write};
 use std::marker::Model;
 
-/// A reader of std as a source. It tells no bytes, and contracts see it as its count of failed reads.
+/// A reader of std as a source. It tells no bytes, and contracts see it as its count of failed
+/// reads.
 #[derive(Drop)]
 pub struct StdSource<R> {
     inner: R,
@@ -46,7 +49,8 @@ impl<R: Read> Source for StdSource<R> {
     }
 }
 
-/// A writer of std as a sink. It tells no bytes, and contracts see it as its count of failed writes.
+/// A writer of std as a sink. It tells no bytes, and contracts see it as its count of failed
+/// writes.
 #[derive(Drop)]
 pub struct StdSink<W> {
     inner: W,

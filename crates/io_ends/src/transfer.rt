@@ -1,13 +1,14 @@
-ghost use Rattle.std.specs.Prelude.{◌≡◌, ℕ, List, ◌<◌, ◌≤◌, ◌++◌, length, take, IfOk, OnOk, OnErr, IfErr};
+//! All the bytes of a source, and all the bytes to a sink.
+
+ghost use Rattle.std.specs.Prelude.{◌≡◌, ◌<◌, ◌≤◌, ◌++◌, length, IfOk, OnOk, OnErr, IfErr};
 ghost use Rattle.std.specs.Io.KnownBytes.{Consumes, IsAtEnd, Appends};
-ghost use Rattle.io_ends.specs.Counts.{Rose};
-ghost use Rattle.io_ends.specs.Ends.{IsOver, Gave, OnReadFault, UnlessReadFault, AppendsFront};
+ghost use Rattle.io_ends.specs.Counts.{CountsFailure};
+ghost use Rattle.io_ends.specs.Ends.{IsOver, Gave, CountsRead, AppendsFront};
 ghost use Rattle.io_ends.specs.declared.transfer.ReadEnd.TheVariants.{NoMemory as no_memory_end};
 
 use crate::sink::Sink;
 use crate::source::{Source, Step};
-use compact_types::items::Items;
-use compact_types::refusal::NoMemory;
+use compact_types::{Items, NoMemory};
 use std::alloc::Global;
 
 /// How many bytes one read may give.
@@ -35,21 +36,6 @@ impl From<NoMemory> for ReadEnd {
 #[derive(Clone, Copy, Debug, PartialEq, Eq)]
 pub struct WriteFault;
 
-/// Adds what was read, unless it makes more bytes than the limit.
-fn add_within(bytes: &mut Items<u8>, read: &[u8], limit: usize) -> Result<(), ReadEnd>
-    requires { length bytes.old ≤ limit }
-    ensures added { OnOk result (bytes.new ≡ bytes.old ++ read.now) }
-    ensures within { OnOk result (length bytes.new ≤ limit) }
-    ensures over { IfErr result (λ why. IsOver why limit (bytes.old ++ read.now)) }
-    ensures no_fault { OnReadFault result ⊥ }
-{
-    if read.len() > limit - bytes.len() {
-        return Err(ReadEnd::TooLong);
-    }
-    bytes.extend_from_slice(read)?;
-    Ok(())
-}
-
 /// All the bytes that the source has left, if they are at most `limit`.
 pub fn read_all<S: Source>(
     alloc: Global,
@@ -64,11 +50,7 @@ pub fn read_all<S: Source>(
     // What was given before the refusal, and more than the limit exactly where it is TooLong.
     ensures given { IfErr result
         (λ why. Gave why limit (S.left source.old) (S.left source.new)) }
-
-    // The count of faults.
-    ensures counted { OnReadFault result (Rose (S.faults source.old) (S.faults source.new)) }
-    ensures uncounted { UnlessReadFault result (S.faults source.new ≡ S.faults source.old) }
-    ensures never_falls { S.faults source.old ≤ S.faults source.new }
+    ensures counted { CountsRead result (S.faults source.old) (S.faults source.new) }
 {
     let mut bytes = Items::new(alloc);
     let mut piece = [0u8; PIECE];
@@ -81,15 +63,26 @@ pub fn read_all<S: Source>(
     }
 }
 
+/// Adds what was read, unless it makes more bytes than the limit.
+fn add_within(bytes: &mut Items<u8>, read: &[u8], limit: usize) -> Result<(), ReadEnd>
+    requires { length bytes.old ≤ limit }
+    ensures added { OnOk result (bytes.new ≡ bytes.old ++ read.now) }
+    ensures within { OnOk result (length bytes.new ≤ limit) }
+    ensures over { IfErr result (λ why. IsOver why limit (bytes.old ++ read.now)) }
+    ensures no_fault { IfErr result (λ why. why ≡ ReadEnd.ReadFault → ⊥) }
+{
+    if read.len() > limit - bytes.len() {
+        return Err(ReadEnd::TooLong);
+    }
+    bytes.extend_from_slice(read)?;
+    Ok(())
+}
+
 /// Writes all of `bytes`, in as many writes as the sink needs. It takes no memory.
 pub fn write_all<K: Sink>(sink: &mut K, bytes: &[u8]) -> Result<(), WriteFault>
     ensures all { OnOk result (Appends (K.held sink.old) (K.held sink.new) bytes.now) }
     ensures front { OnErr result (AppendsFront (K.held sink.old) (K.held sink.new) bytes.now) }
-
-    // The count of faults.
-    ensures counted { OnErr result (Rose (K.faults sink.old) (K.faults sink.new)) }
-    ensures uncounted { OnOk result (K.faults sink.new ≡ K.faults sink.old) }
-    ensures never_falls { K.faults sink.old ≤ K.faults sink.new }
+    ensures counted { CountsFailure result (K.faults sink.old) (K.faults sink.new) }
 {
     let mut at = 0;
     while at < bytes.len() {
@@ -143,7 +136,8 @@ mod tests {
         assert_read(&rt, alloc, 9, &[], 5, Err(ReadEnd::TooLong))?;
         assert_read(&rt, alloc, 9, &[], 0, Err(ReadEnd::TooLong))?;
 
-        // Reads that fail: the first, one in mid-stream, the one that would be the end, one that is never made.
+        // Reads that fail: the first, one in mid-stream, the one that would be the end, one that is
+        // never made.
         assert_read(&rt, alloc, 2, &[1], 6, Err(ReadEnd::ReadFault))?;
         assert_read(&rt, alloc, 2, &[3], 6, Err(ReadEnd::ReadFault))?;
         assert_read(&rt, alloc, 2, &[4], 6, Err(ReadEnd::ReadFault))?;

@@ -8,4 +8,4 @@ returns-in_err-add_within-in-Got-clause-given g c =
     let more = take c.in-Got.count c.read.new.into in
     let refused = err_from_is_err_and c.from_residual.result c.from_residual.ensures.1 in
     rw (refused.1, refused.2)
-    (c.loop-count.bytes ++ more, Consumes-trans _ _ _ _ _ c.loop-count.invariant.1 c.in-Got.ensures.next, c.in_err-add_within-in-Got.ensures.over)
+    (c.loop-count.bytes ++ more, Consumes-trans _ _ _ _ _ c.loop-count.invariant.1 c.in-Got.ensures.moved.next, c.in_err-add_within-in-Got.ensures.over)
