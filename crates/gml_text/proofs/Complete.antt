@@ -10,8 +10,9 @@ use Rattle.gml_text.specs.declared.tree.Value.{Value}
 use Rattle.gml_text.specs.declared.tree.Value.TheVariants.{Text, Inner}
 use Rattle.gml_text.specs.Bytes.{is_space, is_key, are_spaces, begins_numeral, begins_with_word, ends_in_word}
 use Rattle.gml_text.specs.NumeralKinds.{kind_of}
-use Rattle.gml_text.specs.Texts.{most_depth, Pairs, OnePair, HasValue, no_more, a_space, a_comment, one_more, a_pair, a_whole_numeral, a_real_numeral, a_string, a_list, IsText, to_the_end, in_a_comment, Spells}
-use Rattle.gml_text.specs.Reading.{State, Step, goes_on, step_of, run, answer_of, at_the_start, moved, with_pair, read_value, numeral_value}
+use Rattle.gml_text.specs.Texts.{Pairs, OnePair, HasValue, no_more, a_space, a_comment, one_more, a_pair, a_whole_numeral, a_real_numeral, a_string, a_list, IsText, to_the_end, in_a_comment, Spells}
+use Rattle.gml_text.specs.declared.limits.TheConstants.{MOST_DEPTH}
+use Rattle.gml_text.specs.inner.Reading.{State, Step, goes_on, step_of, run, answer_of, at_the_start, moved, with_pair, read_value, numeral_value}
 use Rattle.gml_text.proofs.ByteFacts.{is_space-no_word, begins_numeral-no_space}
 use Rattle.gml_text.proofs.NumeralLaws.{kind_of-whole, kind_of-real}
 use Rattle.gml_text.proofs.Fronts.{begins}
@@ -162,7 +163,7 @@ mutual
       let next : State = with_pair s pair (suc offset + length inside + 1) in
       let regrouped : (key ++ gap ++ (91 ∷ inside ++ 93 ∷ [])) ++ rest ≡ (key ++ gap ++ 91 ∷ []) ++ (inside ++ 93 ∷ rest) = simp append_assoc in
       let size : length (key ++ gap ++ 91 ∷ []) ≡ length key + length gap + 1 = omega (arith, length-append (key ++ gap) (91 ∷ []), length-append key gap) in
-      let fits : length s.parents < most_depth = omega arith in
+      let fits : length s.parents < MOST_DEPTH = omega arith in
       ap (run 0 s) regrouped
       ∙ (run-goes_on s opened (key ++ gap ++ 91 ∷ []) (inside ++ 93 ∷ rest) (omega arith)
       (step-value s key gap (91 ∷ []) (inside ++ 93 ∷ rest) offset (goes_on opened) is_one spaces refl (λ begin. absurd cc) place

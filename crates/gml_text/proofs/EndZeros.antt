@@ -10,7 +10,7 @@ use Rattle.gml_text.specs.Bytes.{is_digit}
 use Rattle.gml_text.proofs.Digits.{value_of_both}
 use Rattle.gml_text.proofs.NumeralParts.{and_true}
 use Rattle.gml_text.specs.Numerals.{digits_value, digits_value_from}
-use Rattle.gml_text.specs.Scaling.{ends_in_zero, ends_in_zero_after, IsKept}
+use Rattle.gml_text.specs.inner.Scaling.{ends_in_zero, ends_in_zero_after, IsKept}
 
 last_digit : (before : Bool) (b : ℕ) (digits : List ℕ) →
     ends_in_zero_after before (b ∷ digits) ≡ (get_or (b ∷ digits) (length digits) 0 == 48)

@@ -12,8 +12,8 @@ use Rattle.gml_text.specs.Bytes.{is_space, is_word_byte, is_key, lacks, begins_n
 use Rattle.gml_text.specs.Faults.{KeyPlace, ValuePlace, FirstFault, at_the_top, in_a_list, after_a_key, bad_key, no_value, bad_value, bad_numeral, open_string, open_list, open_list_in_a_comment, stray_close, too_deep}
 use Rattle.gml_text.specs.Numerals.{Numeral, HasParts}
 use Rattle.gml_text.specs.NumeralKinds.{kind_of, parts_of}
-use Rattle.gml_text.specs.Texts.{most_depth}
-use Rattle.gml_text.specs.Reading.{State, goes_on, stops, step_of, run, finish_in, answer_of, at_the_start, moved, close_in, fault_at, read_value, read_inside, read_numeral_of}
+use Rattle.gml_text.specs.declared.limits.TheConstants.{MOST_DEPTH}
+use Rattle.gml_text.specs.inner.Reading.{State, goes_on, stops, step_of, run, finish_in, answer_of, at_the_start, moved, close_in, fault_at, read_value, read_inside, read_numeral_of}
 use Rattle.gml_text.proofs.ByteFacts.{begins_numeral-no_space, begins_numeral-no_quote, begins_numeral-no_list}
 use Rattle.gml_text.proofs.NumeralLaws.{parts-kind_of}
 use Rattle.gml_text.proofs.Fronts.{begins, prefix_len-front}
@@ -54,7 +54,7 @@ reached (in_a_list depth front around key gap inside pairs outer ends is_one spa
     let parent : Parent = record { before = before.pairs; key = key; at = length begin } in
     let opened : State = record { parents = parent ∷ before.parents; pairs = []; at = length begin + 1 } in
     let place : length begin ≡ length front + (length key + length gap) = place_after front key gap in
-    let fits : length before.parents < most_depth = omega (arith, before.deep) in
+    let fits : length before.parents < MOST_DEPTH = omega (arith, before.deep) in
     record {
       parents = parent ∷ before.parents;
       pairs = pairs;
@@ -166,4 +166,4 @@ answer_of-fault (stray_close front rest before) =
     (step-close there rest ∙ close-outside here.parents here.pairs (length front) here.deep)
 answer_of-fault (too_deep front rest place) =
     value-stops place (91 ∷ rest) (record { at = length front; kind = TooDeep }) refl (λ begin. absurd cc)
-    (λ s key deep. cond-true (leb most_depth (length s.parents)) _ _ (ap (leb most_depth) deep))
+    (λ s key deep. cond-true (leb MOST_DEPTH (length s.parents)) _ _ (ap (leb MOST_DEPTH) deep))

@@ -6,16 +6,17 @@ use Rattle.gml_text.specs.declared.tree.Pair.{Pair}
 use Rattle.gml_text.specs.declared.tree.Value.{Value}
 use Rattle.gml_text.specs.declared.tree.Value.TheVariants.{Inner}
 use Rattle.gml_text.specs.Bytes.{is_space, is_key, are_spaces, lacks, begins_with_word, ends_in_word}
-use Rattle.gml_text.specs.Texts.{most_depth, Pairs, OnePair, HasValue, no_more, a_space, a_comment, one_more, a_pair, a_list}
+use Rattle.gml_text.specs.Texts.{Pairs, OnePair, HasValue, no_more, a_space, a_comment, one_more, a_pair, a_list}
+use Rattle.gml_text.specs.declared.limits.TheConstants.{MOST_DEPTH}
 use Rattle.gml_text.specs.Faults.{KeyPlace, at_the_top, in_a_list}
-use Rattle.gml_text.specs.Reading.{closed}
+use Rattle.gml_text.specs.inner.Reading.{closed}
 use Rattle.gml_text.proofs.Words.{ends_in_word-append}
 
 -- the text ends inside so many lists, whose parents are these, the innermost first; the innermost has these pairs
 pub data Opened : (depth : ℕ) → List ℕ → List Parent → List Pair → Type 0 where
   outside : (text : List ℕ) (pairs : List Pair) → Pairs 0 0 text pairs → Opened 0 text [] pairs
   within : (depth : ℕ) (front : List ℕ) (parents : List Parent) (before : List Pair) (key gap inside : List ℕ) (pairs : List Pair) →
-      Opened depth front parents before → ends_in_word front ≡ false → is_key key ≡ true → are_spaces gap ≡ true → depth < most_depth →
+      Opened depth front parents before → ends_in_word front ≡ false → is_key key ≡ true → are_spaces gap ≡ true → depth < MOST_DEPTH →
       Pairs (suc depth) (length (front ++ key ++ gap) + 1) inside pairs →
       Opened (suc depth) (front ++ key ++ gap ++ 91 ∷ inside) (record { before = before; key = key; at = length (front ++ key ++ gap) } ∷ parents) pairs
 
@@ -26,7 +27,7 @@ pub Opened-depth : {depth : ℕ} {text : List ℕ} {parents : List Parent} {pair
 Opened-depth (outside text pairs h) = refl
 Opened-depth (within depth front parents before key gap inside pairs outer ends is_one spaces room h) = ap suc (Opened-depth outer)
 
-pub Opened-most : {depth : ℕ} {text : List ℕ} {parents : List Parent} {pairs : List Pair} → Opened depth text parents pairs → depth ≤ most_depth
+pub Opened-most : {depth : ℕ} {text : List ℕ} {parents : List Parent} {pairs : List Pair} → Opened depth text parents pairs → depth ≤ MOST_DEPTH
 Opened-most (outside text pairs h) = omega arith
 Opened-most (within depth front parents before key gap inside pairs outer ends is_one spaces room h) = room
 
@@ -106,7 +107,7 @@ after_close (within depth front parents before key gap inside pairs outer ends i
 
 -- a `[` opens a list with no pair yet
 pub open_one : {depth : ℕ} {text : List ℕ} {parents : List Parent} {pairs : List Pair} → Opened depth text parents pairs →
-    ends_in_word text ≡ false → (key gap : List ℕ) (at : ℕ) → is_key key ≡ true → are_spaces gap ≡ true → depth < most_depth →
+    ends_in_word text ≡ false → (key gap : List ℕ) (at : ℕ) → is_key key ≡ true → are_spaces gap ≡ true → depth < MOST_DEPTH →
     at ≡ length (text ++ key ++ gap) →
     Opened (suc depth) (text ++ (key ++ gap ++ 91 ∷ [])) (record { before = pairs; key = key; at = at } ∷ parents) []
 open_one {depth} {text} {parents} {pairs} h ends key gap at is_one spaces room place =

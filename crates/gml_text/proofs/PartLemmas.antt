@@ -7,7 +7,8 @@ use Rattle.std.proofs.lemmas.Bool.Decides.{nat_tests}
 use Rattle.gml_text.specs.declared.number.NumeralKind.TheVariants.{Whole, Real}
 use Rattle.gml_text.specs.Bytes.{is_digit}
 use Rattle.gml_text.specs.Numerals.{are_digits}
-use Rattle.gml_text.specs.NumeralKinds.{HasTheParts, kind_of, is_exponent, exponent_of}
+use Rattle.gml_text.specs.NumeralKinds.{kind_of, is_exponent, exponent_of}
+use Rattle.gml_text.specs.inner.Parts.{HasTheParts}
 
 pub are_digits_cases : (digits : List ℕ) → are_digits digits ≡ (nat_lt 0 (length digits) && list_all is_digit digits)
 are_digits_cases [] = refl

@@ -6,7 +6,7 @@ use Rattle.compact_types.specs.declared.refusal.Refusal.{Refusal}
 use Rattle.compact_types.specs.declared.refusal.Refusal.TheVariants.{Fault, NoMemory}
 use Rattle.gml_text.specs.declared.fault.GmlFault.{GmlFault}
 use Rattle.gml_text.specs.declared.tree.Tree.{Tree}
-use Rattle.gml_text.specs.Reading.{State, Step, goes_on, stops, step_of, run, after_step, IsStep, answer_of}
+use Rattle.gml_text.specs.inner.Reading.{State, Step, goes_on, stops, step_of, run, after_step, IsStep, answer_of}
 
 -- bytes that are taken already are no more looked at
 pub run-skip : (skip : ℕ) (s : State) (text : List ℕ) → run skip s text ≡ run 0 s (drop skip text)

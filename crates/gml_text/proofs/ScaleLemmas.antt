@@ -3,8 +3,9 @@ use Rattle.std.proofs.Common.{◌≡◌, ℕ, ◌+◌, ◌-◌, ◌*◌, ◌^◌
 use Rattle.std.specs.Result.{MatchResult}
 use Rattle.gml_text.specs.declared.number.NumberFault.{NumberFault}
 use Rattle.gml_text.specs.declared.number.NumberFault.TheVariants.{TooFine, OutOfRange}
-use Rattle.gml_text.specs.Numerals.{Sign, no_sign, plus, minus, Exponent, digits_value, most_thousandths}
-use Rattle.gml_text.specs.Scaling.{IsRaisedOrFault, IsKept, tens_above, tens_below, tens_above_by, tens_below_by}
+use Rattle.gml_text.specs.Numerals.{Sign, no_sign, plus, minus, Exponent, digits_value}
+use Rattle.compact_types.specs.declared.limits.TheConstants.{GREATEST_THOUSANDTHS}
+use Rattle.gml_text.specs.inner.Scaling.{IsRaisedOrFault, IsKept, tens_above, tens_below, tens_above_by, tens_below_by}
 use Rattle.gml_text.proofs.Scaling.{top, too_fine, still_less, still_at_most, same_or_many, IsSameOrMany, number_too_great, raised_answer}
 
 one_sided_by : (sign : Sign) (n : ℕ) → (tens_above_by sign n ≡ 0) ⊎ (tens_below_by sign n ≡ 0)
@@ -43,7 +44,7 @@ enough_above whole fraction v f e small most =
     (omega arith) small most
 
 pub too_great_by_kept : (whole fraction v f : List ℕ) (e : Option Exponent) → IsKept whole fraction v f →
-    most_thousandths < digits_value (v ++ f) → length whole + 3 < top →
+    GREATEST_THOUSANDTHS < digits_value (v ++ f) → length whole + 3 < top →
     length fraction + min (tens_below e) top ≤ left_out whole fraction v f + 3 + min (tens_above e) top →
     IsRaisedOrFault (digits_value (whole ++ fraction)) (3 + tens_above e) (length fraction + tens_below e) (Err OutOfRange)
 too_great_by_kept whole fraction v f e h great small most =
@@ -59,7 +60,7 @@ pub raised_by_kept : (whole fraction v f : List ℕ) (e : Option Exponent) (numb
     length whole + 3 < top → length fraction + 13 < top →
     length fraction + min (tens_below e) top ≤ left_out whole fraction v f + 3 + min (tens_above e) top →
     tens ≡ left_out whole fraction v f + 3 + min (tens_above e) top - (length fraction + min (tens_below e) top) →
-    MatchResult r (λ t. (t ≡ number * 10 ^ tens) × (t ≤ most_thousandths)) (λ fault. (fault ≡ OutOfRange) × (most_thousandths < number * 10 ^ tens)) →
+    MatchResult r (λ t. (t ≡ number * 10 ^ tens) × (t ≤ GREATEST_THOUSANDTHS)) (λ fault. (fault ≡ OutOfRange) × (GREATEST_THOUSANDTHS < number * 10 ^ tens)) →
     IsRaisedOrFault (digits_value (whole ++ fraction)) (3 + tens_above e) (length fraction + tens_below e) r
 raised_by_kept whole fraction v f e number tens r h some same small short most exact m =
     by_number whole fraction v f (3 + tens_above e) (length fraction + tens_below e) r h

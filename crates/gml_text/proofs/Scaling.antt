@@ -6,8 +6,8 @@ use native.Mathlib.Nat.{mul_assoc, mul_comm, pow-succ', mul-div_cancel, mul-mod_
 use Rattle.std.proofs.lemmas.Nat.{pow-add}
 use Rattle.gml_text.specs.declared.number.NumberFault.{NumberFault}
 use Rattle.gml_text.specs.declared.number.NumberFault.TheVariants.{TooFine, OutOfRange}
-use Rattle.gml_text.specs.Numerals.{most_thousandths}
-use Rattle.gml_text.specs.Scaling.{IsRaised, IsRaisedOrFault}
+use Rattle.compact_types.specs.declared.limits.TheConstants.{GREATEST_THOUSANDTHS}
+use Rattle.gml_text.specs.inner.Scaling.{IsRaised, IsRaisedOrFault}
 
 pub power_above_zero : (k : ℕ) → 0 < 10 ^ k
 power_above_zero k = one-le-pow k 10 (omega arith)
@@ -17,7 +17,7 @@ cancel x y k e =
     sym (mul-div_cancel x (power_above_zero k)) ∙ ap (λ z. z / 10 ^ k) e ∙ mul-div_cancel y (power_above_zero k)
 
 -- more than thirteen places are out of range
-pub many_tens : (number tens : ℕ) → 0 < number → 13 < tens → most_thousandths < number * 10 ^ tens
+pub many_tens : (number tens : ℕ) → 0 < number → 13 < tens → GREATEST_THOUSANDTHS < number * 10 ^ tens
 many_tens number tens h k =
     let p : 10 ^ 14 ≤ 10 ^ tens = pow-le-pow_right (omega arith) k in
     let q : 1 * 10 ^ tens ≤ number * 10 ^ tens = mul-le-mul_right (10 ^ tens) h in
@@ -76,7 +76,7 @@ same_or_many before p q whole after (inr e) h l m k =
 pub nothing_raised : (number above below : ℕ) → number ≡ 0 → IsRaisedOrFault number above below (Ok 0)
 nothing_raised number above below e = (sym (ap (λ x. x * 10 ^ above) e ∙ ap (λ x. x) (omega arith)), omega arith)
 
-pub number_too_great : (number dropped above below : ℕ) → most_thousandths < number → below ≤ dropped + above →
+pub number_too_great : (number dropped above below : ℕ) → GREATEST_THOUSANDTHS < number → below ≤ dropped + above →
     IsRaisedOrFault (number * 10 ^ dropped) above below (Err OutOfRange)
 number_too_great number dropped above below h k = (
   number * 10 ^ (dropped + above - below),
@@ -87,7 +87,7 @@ number_too_great number dropped above below h k = (
 
 pub raised_answer : (number dropped above below k : ℕ) (r : Result ℕ NumberFault) → 0 < number → below ≤ dropped + above →
     IsSameOrMany k (dropped + above - below) →
-    MatchResult r (λ t. (t ≡ number * 10 ^ k) × (t ≤ most_thousandths)) (λ fault. (fault ≡ OutOfRange) × (most_thousandths < number * 10 ^ k)) →
+    MatchResult r (λ t. (t ≡ number * 10 ^ k) × (t ≤ GREATEST_THOUSANDTHS)) (λ fault. (fault ≡ OutOfRange) × (GREATEST_THOUSANDTHS < number * 10 ^ k)) →
     IsRaisedOrFault (number * 10 ^ dropped) above below r
 raised_answer number dropped above below k (Ok t) h l (inl e) m =
     (ap (λ x. x * 10 ^ below) (m.0 ∙ ap (λ x. number * 10 ^ x) e) ∙ raised_by number dropped above below l, m.1)

@@ -7,9 +7,10 @@ use Rattle.std.proofs.lemmas.Int.{ints}
 use Rattle.std.proofs.lemmas.Bool.{cases_lt}
 use Rattle.gml_text.specs.declared.number.NumberFault.{NumberFault}
 use Rattle.gml_text.specs.declared.number.NumberFault.TheVariants.{TooFine, OutOfRange}
-use Rattle.gml_text.specs.Numerals.{Sign, no_sign, plus, minus, Exponent, Numeral, digits_value, with_sign, fraction_digits, exponent_value, power_of_ten, IsTimesTen, IsThousandths, most_thousandths}
-use Rattle.gml_text.specs.NumeralKinds.{is_minus}
-use Rattle.gml_text.specs.Scaling.{IsRaised, IsRaisedOrFault, tens_above, tens_below, tens_above_by, tens_below_by, signed, signed_answer}
+use Rattle.gml_text.specs.Numerals.{Sign, no_sign, plus, minus, Exponent, Numeral, digits_value, with_sign, fraction_digits, exponent_value, power_of_ten, IsTimesTen, IsThousandths}
+use Rattle.compact_types.specs.declared.limits.TheConstants.{GREATEST_THOUSANDTHS}
+use Rattle.gml_text.specs.inner.Parts.{is_minus}
+use Rattle.gml_text.specs.inner.Scaling.{IsRaised, IsRaisedOrFault, tens_above, tens_below, tens_above_by, tens_below_by, signed, signed_answer}
 use Rattle.gml_text.proofs.Scaling.{cancel, power_above_zero}
 
 -- ---- signs
@@ -132,9 +133,9 @@ thousandths_to n t h =
 
 -- the answer is the number of thousandths, or says why there is none
 pub record IsAnswer (n : Numeral) (r : Result ℤ NumberFault) : Type 0 where
-  pub value : (t : ℤ) → (r ≡ Ok t) ↔ (IsThousandths n t × (unsigned_abs t ≤ most_thousandths))
+  pub value : (t : ℤ) → (r ≡ Ok t) ↔ (IsThousandths n t × (unsigned_abs t ≤ GREATEST_THOUSANDTHS))
   pub too_fine : (r ≡ Err TooFine) ↔ ((t : ℤ) → IsThousandths n t → ⊥)
-  pub out_of_range : (r ≡ Err OutOfRange) ↔ ((t : ℤ) × IsThousandths n t × (most_thousandths < unsigned_abs t))
+  pub out_of_range : (r ≡ Err OutOfRange) ↔ ((t : ℤ) × IsThousandths n t × (GREATEST_THOUSANDTHS < unsigned_abs t))
 
 -- a numeral has one number of thousandths
 same_as : (n : Numeral) (m : ℕ) (t : ℤ) → IsRaised (digits_of n) (above_of n) (below_of n) m → IsThousandths n t →
@@ -160,7 +161,7 @@ is_answer n (Ok m) h =
     let k : IsThousandths n u = thousandths_from n m h.0 in
     record {
       value = λ t. (
-        λ e. subst (λ (x : ℤ). IsThousandths n x × (unsigned_abs x ≤ most_thousandths)) (sym (ok_is u t (Ok u) refl e))
+        λ e. subst (λ (x : ℤ). IsThousandths n x × (unsigned_abs x ≤ GREATEST_THOUSANDTHS)) (sym (ok_is u t (Ok u) refl e))
             (k, omega (arith, magnitude_of_signed (is_minus n.sign) m, h.1)),
         λ (p, q). ap Ok (sym (same_as n m t h.0 p)),
       );

@@ -19,8 +19,9 @@ use Rattle.gml_text.specs.Bytes.{is_space, is_word_byte, is_key, are_spaces, lac
 use Rattle.gml_text.specs.Faults.{KeyPlace, ValuePlace, FirstFault, after_a_key, bad_key, no_value, bad_value, bad_numeral, open_string, open_list, open_list_in_a_comment, stray_close, too_deep}
 use Rattle.gml_text.specs.Numerals.{HasParts}
 use Rattle.gml_text.specs.NumeralKinds.{kind_of}
-use Rattle.gml_text.specs.Texts.{most_depth, HasValue, no_more, a_whole_numeral, a_real_numeral, a_string, IsText, to_the_end, in_a_comment, Spells}
-use Rattle.gml_text.specs.Reading.{State, Step, goes_on, stops, step_of, run, finish, finish_in, answer_of, at_the_start, moved, with_pair, close_in, read_value, read_inside, read_string, read_numeral, read_numeral_of, numeral_value, begin_list, read_after}
+use Rattle.gml_text.specs.Texts.{HasValue, no_more, a_whole_numeral, a_real_numeral, a_string, IsText, to_the_end, in_a_comment, Spells}
+use Rattle.gml_text.specs.declared.limits.TheConstants.{MOST_DEPTH}
+use Rattle.gml_text.specs.inner.Reading.{State, Step, goes_on, stops, step_of, run, finish, finish_in, answer_of, at_the_start, moved, with_pair, close_in, read_value, read_inside, read_string, read_numeral, read_numeral_of, numeral_value, begin_list, read_after}
 use Rattle.gml_text.proofs.NumeralLaws.{whole-kind_of, real-kind_of, none-kind_of}
 use Rattle.gml_text.proofs.ByteFacts.{is_space-no_word, begins_numeral-word}
 use Rattle.gml_text.proofs.Fronts.{begins, and-left, take_while-front, list_all-take_while, begins-drop_while, prefix_len-yes}
@@ -257,18 +258,18 @@ right-numeral front key gap word rest (Some kind) s depth at here some ends all 
 
 right-list : (front key gap text : List ℕ) (s : State) (depth at : ℕ) → IsPlace front key gap (91 ∷ text) s depth at →
     IsRight front (key ++ gap ++ 91 ∷ text) (begin_list s key at)
-right-list front key gap text s depth at here = go (leb most_depth (length s.parents)) refl
+right-list front key gap text s depth at here = go (leb MOST_DEPTH (length s.parents)) refl
   where
     parent : Parent
     parent = record { before = s.pairs; key = key; at = at }
 
-    go : (test : Bool) → leb most_depth (length s.parents) ≡ test → IsRight front (key ++ gap ++ 91 ∷ text) (begin_list s key at)
-    go true e = right front (key ++ gap ++ 91 ∷ text) (begin_list s key at) (stops (record { at = at; kind = TooDeep })) (cond-true (leb most_depth (length s.parents)) _ _ e)
+    go : (test : Bool) → leb MOST_DEPTH (length s.parents) ≡ test → IsRight front (key ++ gap ++ 91 ∷ text) (begin_list s key at)
+    go true e = right front (key ++ gap ++ 91 ∷ text) (begin_list s key at) (stops (record { at = at; kind = TooDeep })) (cond-true (leb MOST_DEPTH (length s.parents)) _ _ e)
         (value_fault front key gap (91 ∷ text) s depth at TooDeep here
         (too_deep (front ++ key ++ gap) text (subst (λ depth. ValuePlace depth (front ++ key ++ gap)) (omega (arith, leb-most (length s.parents) e, Opened-depth here.opened, Opened-most here.opened)) (value_place here))))
     go false e =
-        let room : depth < most_depth = omega (arith, leb-less (length s.parents) e, Opened-depth here.opened) in
-        right front (key ++ gap ++ 91 ∷ text) (begin_list s key at) (goes_on (record { parents = record { before = s.pairs; key = key; at = at } ∷ s.parents; pairs = []; at = at + 1 })) (cond-false (leb most_depth (length s.parents)) _ _ e)
+        let room : depth < MOST_DEPTH = omega (arith, leb-less (length s.parents) e, Opened-depth here.opened) in
+        right front (key ++ gap ++ 91 ∷ text) (begin_list s key at) (goes_on (record { parents = record { before = s.pairs; key = key; at = at } ∷ s.parents; pairs = []; at = at + 1 })) (cond-false (leb MOST_DEPTH (length s.parents)) _ _ e)
         (inl (record {
           taken = key ++ gap ++ 91 ∷ [];
           rest = text;

@@ -4,8 +4,9 @@ use Rattle.std.specs.List.{list_all}
 use Rattle.gml_text.specs.declared.number.NumberFault.{NumberFault}
 use Rattle.gml_text.specs.Bytes.{is_digit}
 use Rattle.gml_text.specs.Numerals.{Numeral, HasParts, digits_value}
-use Rattle.gml_text.specs.NumeralKinds.{HasTheParts, parts_of, is_numeral, is_exponent, exponent_of}
-use Rattle.gml_text.specs.Scaling.{IsRaisedOrFault, tens_above, tens_below, signed_answer}
+use Rattle.gml_text.specs.NumeralKinds.{parts_of, is_numeral, is_exponent, exponent_of}
+use Rattle.gml_text.specs.inner.Parts.{HasTheParts}
+use Rattle.gml_text.specs.inner.Scaling.{IsRaisedOrFault, tens_above, tens_below, signed_answer}
 use Rattle.gml_text.proofs.NumeralParts.{parts_of-is, test_from_exponent}
 use Rattle.gml_text.proofs.NumeralLaws.{numeral_has_parts}
 use Rattle.gml_text.proofs.SignedThousandths.{IsAnswer, is_answer}

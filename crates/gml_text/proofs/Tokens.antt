@@ -8,8 +8,8 @@ use Rattle.gml_text.specs.declared.number.NumeralKind.{NumeralKind}
 use Rattle.gml_text.specs.declared.tree.Value.TheVariants.{Text}
 use Rattle.gml_text.specs.Bytes.{is_space, is_word_byte, is_key, are_spaces, lacks, begins_key, begins_numeral, begins_with_word}
 use Rattle.gml_text.specs.NumeralKinds.{kind_of}
-use Rattle.gml_text.specs.Texts.{most_depth}
-use Rattle.gml_text.specs.Reading.{State, goes_on, step_of, moved, with_pair, after_comment, close_list, read_inside, numeral_value, read_numeral_of, read_value, read_after, read_pair}
+use Rattle.gml_text.specs.declared.limits.TheConstants.{MOST_DEPTH}
+use Rattle.gml_text.specs.inner.Reading.{State, goes_on, step_of, moved, with_pair, after_comment, close_list, read_inside, numeral_value, read_numeral_of, read_value, read_after, read_pair}
 use Rattle.gml_text.proofs.ByteFacts.{begins_key-no_space, begins_key-no_comment, begins_key-no_close, begins_numeral-no_quote, begins_numeral-no_list}
 use Rattle.gml_text.proofs.Fronts.{begins, and-left, prefix_len-front, take_while-front, drop_while-front}
 use Rattle.gml_text.proofs.Words.{is_key-word, gap-no_word, begins-word}
@@ -106,6 +106,6 @@ value-numeral s key at (b ∷ word) rest kind h all first ends =
     ∙ ap (λ found. read_numeral_of found s key at (b ∷ word)) h)))
 
 -- a list
-pub value-list : (s : State) (key : List ℕ) (at : ℕ) (rest : List ℕ) → length s.parents < most_depth →
+pub value-list : (s : State) (key : List ℕ) (at : ℕ) (rest : List ℕ) → length s.parents < MOST_DEPTH →
     read_value s key at (91 ∷ rest) ≡ goes_on (record { parents = record { before = s.pairs; key = key; at = at } ∷ s.parents; pairs = []; at = at + 1 })
-value-list s key at rest room = cond-false (leb most_depth (length s.parents)) _ _ (leb-more (length s.parents) room)
+value-list s key at rest room = cond-false (leb MOST_DEPTH (length s.parents)) _ _ (leb-more (length s.parents) room)

@@ -20,7 +20,8 @@ list_without_offsets tree = roll-Tree (record { pairs = tree.pairs })
 
 -- the tree with 0 for the offset of each value, at every depth
 abbrev pub without_offsets : Tree → Tree
-without_offsets = fold-Tree Value Pair Tree value_without_offsets pair_without_offset list_without_offsets
+without_offsets =
+    fold-Tree Value Pair Tree value_without_offsets pair_without_offset list_without_offsets
 
 -- the trees differ at most in the offsets of their values
 abbrev pub IsAlike : Tree → Tree → Type 0

@@ -1,6 +1,9 @@
 -- Numerals and their values.
-use Rattle.std.specs.Prelude.{◌≡◌, ℕ, ◌+◌, ◌-◌, ◌*◌, ◌^◌, ◌<◌, pos, negsuc, ℤ, ◌+ℤ◌, ◌-ℤ◌, ◌*ℤ◌, Bool, true, false, List, [], ◌∷◌, ◌++◌, length, Option, None, Some, IsSome, ◌⊎◌, ◌==◌, ◌&&◌, ◌||◌, if◌then◌else◌}
+use Rattle.std.specs.Prelude.{◌≡◌, ℕ, ◌+◌, ◌-◌, ◌*◌, ◌^◌, ◌<◌, pos, negsuc, ℤ, ◌+ℤ◌, ◌-ℤ◌, ◌*ℤ◌}
+use Rattle.std.specs.Prelude.{Bool, true, false, List, [], ◌∷◌, ◌++◌, length, Option, None, Some}
+use Rattle.std.specs.Prelude.{IsSome, ◌⊎◌, ◌==◌, ◌&&◌, ◌||◌, if◌then◌else◌}
 use Rattle.std.specs.List.{list_all}
+use Rattle.gml_text.specs.declared.marks.TheConstants.{PLUS, MINUS, POINT, ZERO, CAPITAL_E, SMALL_E}
 use Rattle.gml_text.specs.Bytes.{is_digit}
 
 pub data Sign : Type 0 where
@@ -14,8 +17,8 @@ pub record Exponent : Type 0 where
   pub sign : Sign
   pub digits : List ℕ
 
--- the parts of a numeral: its sign, the digits before the point, those after it where there is a point, and the
--- exponent where there is one
+-- the parts of a numeral: its sign, the digits before the point, those after it where there is a
+-- point, and the exponent where there is one
 pub record Numeral : Type 0 where
   pub sign : Sign
   pub whole : List ℕ
@@ -24,8 +27,8 @@ pub record Numeral : Type 0 where
 
 abbrev pub sign_text : Sign → List ℕ
 sign_text no_sign = []
-sign_text plus = 43 ∷ []
-sign_text minus = 45 ∷ []
+sign_text plus = PLUS ∷ []
+sign_text minus = MINUS ∷ []
 
 abbrev pub fraction_digits : Option (List ℕ) → List ℕ
 fraction_digits None = []
@@ -33,7 +36,7 @@ fraction_digits (Some digits) = digits
 
 abbrev pub fraction_text : Option (List ℕ) → List ℕ
 fraction_text None = []
-fraction_text (Some digits) = 46 ∷ digits
+fraction_text (Some digits) = POINT ∷ digits
 
 abbrev pub exponent_text : Option Exponent → List ℕ
 exponent_text None = []
@@ -41,11 +44,14 @@ exponent_text (Some e) = e.letter ∷ (sign_text e.sign ++ e.digits)
 
 -- how the parts are written
 abbrev pub numeral_text : Numeral → List ℕ
-numeral_text n = sign_text n.sign ++ (n.whole ++ (fraction_text n.fraction ++ exponent_text n.exponent))
+numeral_text n =
+    sign_text n.sign ++ (n.whole ++ (fraction_text n.fraction ++ exponent_text n.exponent))
 
 abbrev pub IsExponent : Option Exponent → Type 0
 IsExponent None = Unit {0}
-IsExponent (Some e) = ((e.letter ≡ 101) ⊎ (e.letter ≡ 69)) × (list_all is_digit e.digits ≡ true) × (0 < length e.digits)
+IsExponent (Some e) =
+    ((e.letter ≡ SMALL_E) ⊎ (e.letter ≡ CAPITAL_E)) × (list_all is_digit e.digits ≡ true) ×
+    (0 < length e.digits)
 
 -- the parts are digits where they should be, at least one of them before the exponent
 pub record IsNumeral (n : Numeral) : Type 0 where
@@ -70,7 +76,7 @@ are_digits [] = false
 are_digits (b ∷ bytes) = is_digit b && list_all is_digit bytes
 
 abbrev pub is_sign : ℕ → Bool
-is_sign b = (b == 43) || (b == 45)
+is_sign b = (b == PLUS) || (b == MINUS)
 
 -- a whole numeral: a sign or none, and then digits
 abbrev pub is_whole_numeral : List ℕ → Bool
@@ -84,7 +90,7 @@ IsRealNumeral word = (n : Numeral) × HasParts word n × (IsSome n.fraction ⊎ 
 -- the number that digits write, the first digit the greatest
 abbrev pub digits_value_from : ℕ → List ℕ → ℕ
 digits_value_from before [] = before
-digits_value_from before (b ∷ digits) = digits_value_from (before * 10 + (b - 48)) digits
+digits_value_from before (b ∷ digits) = digits_value_from (before * 10 + (b - ZERO)) digits
 
 abbrev pub digits_value : List ℕ → ℕ
 digits_value digits = digits_value_from 0 digits
@@ -102,8 +108,8 @@ whole_value n = with_sign n.sign (digits_value n.whole)
 abbrev pub value_of_whole : List ℕ → ℤ
 value_of_whole [] = pos 0
 value_of_whole (b ∷ bytes) =
-    if b == 43 then pos (digits_value bytes)
-    else if b == 45 then pos 0 -ℤ pos (digits_value bytes)
+    if b == PLUS then pos (digits_value bytes)
+    else if b == MINUS then pos 0 -ℤ pos (digits_value bytes)
     else pos (digits_value (b ∷ bytes))
 
 -- the digits before the exponent as one whole number, with the sign of the numeral
@@ -127,7 +133,3 @@ IsTimesTen m (negsuc e) t = t *ℤ pos (10 ^ (e + 1)) ≡ m
 -- t is 1,000 times the value of the numeral
 abbrev pub IsThousandths : Numeral → ℤ → Type 0
 IsThousandths n t = IsTimesTen (mantissa n) (power_of_ten n +ℤ pos 3) t
-
--- the greatest magnitude of a number in thousandths
-abbrev pub most_thousandths : ℕ
-most_thousandths = 10000000000000

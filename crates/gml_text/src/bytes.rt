@@ -1,26 +1,33 @@
+//! The classes of bytes, and the runs of them at the front of a text.
+
 ghost use Rattle.std.specs.Prelude.{◌≡◌, ◌≤◌, length, not, ◌==◌};
 ghost use Rattle.std.specs.List.{prefix_len, list_all};
 ghost use Rattle.gml_text.specs.Bytes as spec;
+
+use crate::marks::{
+    CAPITAL_A, CAPITAL_Z, CARRIAGE_RETURN, CLOSING_BRACKET, LINE_FEED, MINUS, NINE,
+    OPENING_BRACKET, PLUS, POINT, QUOTE, SMALL_A, SMALL_Z, SPACE, TAB, UNDERSCORE, ZERO,
+};
 
 /// Whether the byte is white space.
 pub(crate) fn is_space(byte: u8) -> bool
     ensures { result ≡ spec.is_space byte }
 {
-    byte == b' ' || byte == b'\t' || byte == b'\n' || byte == b'\r'
+    byte == SPACE || byte == TAB || byte == LINE_FEED || byte == CARRIAGE_RETURN
 }
 
 /// Whether a word may have the byte.
 pub(crate) fn is_word_byte(byte: u8) -> bool
     ensures { result ≡ spec.is_word_byte byte }
 {
-    !(is_space(byte) || byte == b'[' || byte == b']' || byte == b'"')
+    !(is_space(byte) || byte == OPENING_BRACKET || byte == CLOSING_BRACKET || byte == QUOTE)
 }
 
 /// Whether a word with this first byte stands for a number, or for nothing.
 pub(crate) fn begins_numeral(byte: u8) -> bool
     ensures { result ≡ spec.begins_numeral byte }
 {
-    is_digit(byte) || byte == b'+' || byte == b'-' || byte == b'.'
+    is_digit(byte) || byte == PLUS || byte == MINUS || byte == POINT
 }
 
 /// Whether the word is a key.
@@ -60,19 +67,19 @@ pub(crate) fn length_before(text: &[u8], stop: u8) -> usize
 fn is_digit(byte: u8) -> bool
     ensures { result ≡ spec.is_digit byte }
 {
-    byte >= b'0' && byte <= b'9'
+    byte >= ZERO && byte <= NINE
 }
 
 fn is_letter(byte: u8) -> bool
     ensures { result ≡ spec.is_letter byte }
 {
-    (byte >= b'A' && byte <= b'Z') || (byte >= b'a' && byte <= b'z')
+    (byte >= CAPITAL_A && byte <= CAPITAL_Z) || (byte >= SMALL_A && byte <= SMALL_Z)
 }
 
 fn begins_key(byte: u8) -> bool
     ensures { result ≡ spec.begins_key byte }
 {
-    is_letter(byte) || byte == b'_'
+    is_letter(byte) || byte == UNDERSCORE
 }
 
 fn go_on_key(bytes: &[u8]) -> bool
@@ -84,5 +91,5 @@ fn go_on_key(bytes: &[u8]) -> bool
 fn goes_on_key(byte: u8) -> bool
     ensures { result ≡ spec.goes_on_key byte }
 {
-    is_letter(byte) || is_digit(byte) || byte == b'_'
+    is_letter(byte) || is_digit(byte) || byte == UNDERSCORE
 }

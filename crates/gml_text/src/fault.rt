@@ -1,3 +1,5 @@
+//! The faults of a text.
+
 /// In which way a text is no GML text.
 #[derive(Clone, Copy, Debug, PartialEq, Eq)]
 pub enum GmlKind {

@@ -1,19 +1,25 @@
-ghost use Rattle.std.specs.Prelude.{◌≡◌, ◌↔◌, ℕ, ℤ, unsigned_abs, List, true, if◌then◌else◌, nat_lt, is_some, IfOk, FitsSigned, ◌+◌, ◌<◌, ◌≤◌, ◌^◌, length};
+//! The numbers that numerals write.
+
+ghost use Rattle.std.specs.Prelude.{◌≡◌, ◌↔◌, ℕ, ℤ, unsigned_abs, List, true, ◌<◌, ◌≤◌};
+ghost use Rattle.std.specs.Prelude.{IfOk, FitsSigned};
 ghost use Rattle.std.specs.Int.{w64};
-ghost use Rattle.std.specs.List.{list_all, prefix_len};
 ghost use Rattle.std.specs.Option.{SomeIff};
-ghost use Rattle.gml_text.specs.Bytes.{is_digit};
-ghost use Rattle.gml_text.specs.NumeralKinds.{HasTheParts, is_numeral, kind_of, is_exponent, exponent_of, is_minus, sign_of, after_sign, front_digits, after_digits, fraction_of, after_fraction};
-ghost use Rattle.gml_text.specs.Numerals.{is_whole_numeral, value_of_whole, digits_value, are_digits, fraction_digits, Numeral, HasParts, HasNoPoint, whole_value, IsThousandths, most_thousandths};
-ghost use Rattle.gml_text.specs.Scaling.{signed_answer};
+ghost use Rattle.compact_types.specs.declared.limits.TheConstants.{GREATEST_THOUSANDTHS};
+ghost use Rattle.gml_text.specs.NumeralKinds.{is_numeral, kind_by, kind_of};
+ghost use Rattle.gml_text.specs.Numerals.{is_whole_numeral, value_of_whole};
+ghost use Rattle.gml_text.specs.Numerals.{Numeral, HasParts, HasNoPoint, whole_value};
+ghost use Rattle.gml_text.specs.Numerals.{IsThousandths};
+ghost use Rattle.gml_text.specs.Thousandths.{thousandths_of};
+ghost use Rattle.gml_text.specs.inner.Scaling.{signed_answer};
 
 mod digits;
 mod parts;
 mod scale;
 
+use crate::marks::{MINUS, PLUS};
 use digits::magnitude;
 use parts::{have_digit, is_exponent, parts_of};
-use scale::thousandths_of;
+use scale::scale_to_thousandths;
 
 /// Whether a numeral is written without a point and an exponent, or with one of them.
 #[derive(Clone, Copy, Debug, PartialEq, Eq)]
@@ -31,22 +37,27 @@ pub enum NumberFault {
     OutOfRange,
 }
 
-/// A thousand times the value of a numeral.
+/// A thousand times the value of a numeral: it is exact, or refused.
 pub fn thousandths(lexeme: &[u8]) -> Result<i64, NumberFault>
     requires { is_numeral lexeme.now ≡ true }
-    ensures value { (n : Numeral) → HasParts lexeme.now n → (t : ℤ) → (result ≡ Ok t) ↔ (IsThousandths n t × (unsigned_abs t ≤ most_thousandths)) }
-    ensures too_fine { (n : Numeral) → HasParts lexeme.now n → (result ≡ Err NumberFault.TooFine) ↔ ((t : ℤ) → IsThousandths n t → ⊥) }
-    ensures out_of_range { (n : Numeral) → HasParts lexeme.now n → (result ≡ Err NumberFault.OutOfRange) ↔ ((t : ℤ) × IsThousandths n t × (most_thousandths < unsigned_abs t)) }
+    ensures answer { result ≡ thousandths_of lexeme.now }
+
+    // When each answer comes, by the parts of the numeral.
+    ensures value { (n : Numeral) → HasParts lexeme.now n → (t : ℤ) →
+        (result ≡ Ok t) ↔ (IsThousandths n t × (unsigned_abs t ≤ GREATEST_THOUSANDTHS)) }
+    ensures too_fine { (n : Numeral) → HasParts lexeme.now n →
+        (result ≡ Err NumberFault.TooFine) ↔ ((t : ℤ) → IsThousandths n t → ⊥) }
+    ensures out_of_range { (n : Numeral) → HasParts lexeme.now n →
+        (result ≡ Err NumberFault.OutOfRange) ↔
+        ((t : ℤ) × IsThousandths n t × (GREATEST_THOUSANDTHS < unsigned_abs t)) }
 {
     let parts = parts_of(lexeme);
-    with_sign(
-        parts.minus,
-        thousandths_of(parts.whole, parts.fraction, parts.exponent),
-    )
+    let magnitude = scale_to_thousandths(parts.whole, parts.fraction, parts.exponent);
+    with_sign(parts.minus, magnitude)
 }
 
 fn with_sign(minus: bool, magnitude: Result<u64, NumberFault>) -> Result<i64, NumberFault>
-    requires { IfOk magnitude (λ n. n ≤ most_thousandths) }
+    requires { IfOk magnitude (λ n. n ≤ GREATEST_THOUSANDTHS) }
     ensures { result ≡ signed_answer minus magnitude }
 {
     let magnitude = magnitude? as i64;
@@ -56,12 +67,12 @@ fn with_sign(minus: bool, magnitude: Result<u64, NumberFault>) -> Result<i64, Nu
 /// The value of a whole numeral; `None` exactly where it is outside `i64`.
 pub fn whole(lexeme: &[u8]) -> Option<i64>
     requires { is_whole_numeral lexeme.now ≡ true }
-    ensures { SomeIff result (FitsSigned w64 (value_of_whole lexeme.now)) (value_of_whole lexeme.now) }
+    ensures { let value = value_of_whole lexeme.now in SomeIff result (FitsSigned w64 value) value }
 {
     let zero: i64 = 0;
     match lexeme {
-        [b'-', digits @ ..] => zero.checked_sub_unsigned(magnitude(0, digits)?),
-        [b'+', digits @ ..] => zero.checked_add_unsigned(magnitude(0, digits)?),
+        [MINUS, digits @ ..] => zero.checked_sub_unsigned(magnitude(0, digits)?),
+        [PLUS, digits @ ..] => zero.checked_add_unsigned(magnitude(0, digits)?),
         digits => zero.checked_add_unsigned(magnitude(0, digits)?),
     }
 }
@@ -78,7 +89,7 @@ pub fn numeral_kind(word: &[u8]) -> Option<NumeralKind>
 }
 
 fn kind_from(numeral: bool, real: bool) -> Option<NumeralKind>
-    ensures { result ≡ (if numeral then (if real then Some NumeralKind.Real else Some NumeralKind.Whole) else None) }
+    ensures { result ≡ kind_by numeral real }
 {
     if !numeral {
         None
@@ -89,12 +100,15 @@ fn kind_from(numeral: bool, real: bool) -> Option<NumeralKind>
     }
 }
 
-/// The two readings of whole numerals agree, by the bytes of the word and by the parts of the numeral; and a word is
-/// a numeral exactly where it has the parts of one.
+/// The two readings of whole numerals agree, by the bytes of the word and by the parts of the
+/// numeral; and a word is a numeral exactly where it has the parts of one.
 pub fn numerals_have_parts()
-    ensures whole { (word : List ℕ) → (is_whole_numeral word ≡ true) ↔ ((n : Numeral) × HasParts word n × HasNoPoint n) }
-    ensures value { (word : List ℕ) (n : Numeral) → HasParts word n → HasNoPoint n → value_of_whole word ≡ whole_value n }
-    ensures numeral { (word : List ℕ) → (is_numeral word ≡ true) ↔ ((n : Numeral) × HasParts word n) }
+    ensures whole { (word : List ℕ) →
+        (is_whole_numeral word ≡ true) ↔ ((n : Numeral) × HasParts word n × HasNoPoint n) }
+    ensures value { (word : List ℕ) (n : Numeral) → HasParts word n → HasNoPoint n →
+        value_of_whole word ≡ whole_value n }
+    ensures numeral { (word : List ℕ) →
+        (is_numeral word ≡ true) ↔ ((n : Numeral) × HasParts word n) }
     ensures only { (word : List ℕ) (m n : Numeral) → HasParts word m → HasParts word n → m ≡ n }
 {}
 

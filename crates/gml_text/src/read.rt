@@ -1,31 +1,24 @@
-ghost use Rattle.std.specs.Prelude.{◌≡◌, ◌≤◌, length, true, Ok, Err, IfOk};
-ghost use Rattle.compact_types.specs.Refusals.{Gives, IfFault};
-ghost use Rattle.gml_text.specs.declared.fault.GmlFault.{GmlFault};
-ghost use Rattle.gml_text.specs.declared.tree.Tree.{Tree};
-ghost use Rattle.gml_text.specs.Faults.{FirstFault, HasOneAnswer};
+//! The tree of a text.
+
+ghost use Rattle.std.specs.Prelude.{◌≤◌, length, IfOk};
+ghost use Rattle.compact_types.specs.Refusals.{Decides, HasOneAnswer};
+ghost use Rattle.gml_text.specs.declared.limits.TheConstants.{MOST_BYTES};
+ghost use Rattle.gml_text.specs.Faults.{FirstFault};
 ghost use Rattle.gml_text.specs.Grammar.{IsReadable};
-ghost use Rattle.gml_text.specs.Texts.{most_bytes, Spells};
-ghost use Rattle.gml_text.specs.Trees.{is_within_grammar};
+ghost use Rattle.gml_text.specs.Texts.{Spells};
 
 use crate::fault::GmlFault;
 use crate::reader::read;
 use crate::tree::Tree;
-use compact_types::refusal::Refusal;
+use compact_types::Refusal;
 use std::alloc::Global;
 
 /// The tree of a text of at most 64 MiB, or its first fault; offsets count from 0.
 pub fn read_tree(alloc: Global, bytes: &[u8]) -> Result<Tree, Refusal<GmlFault>>
-    requires { length bytes.now ≤ most_bytes }
-    // What is answered is so.
-    ensures tree { IfOk result (λ tree. Spells bytes.now tree) }
-    ensures fault { IfFault result (λ fault. FirstFault bytes.now fault) }
-
-    // What is so is answered, unless memory is refused.
-    ensures only { (tree : Tree) → Spells bytes.now tree → Gives result (Ok tree) }
-    ensures first { (fault : GmlFault) → FirstFault bytes.now fault → Gives result (Err fault) }
+    requires { length bytes.now ≤ MOST_BYTES }
+    ensures decides { Decides result (Spells bytes.now) (FirstFault bytes.now) }
 
     // What callers may rely on in every tree that is read.
-    ensures within { IfOk result (λ tree. is_within_grammar tree ≡ true) }
     ensures readable { IfOk result (λ tree. IsReadable tree) }
 {
     read(alloc, bytes)
@@ -33,7 +26,7 @@ pub fn read_tree(alloc: Global, bytes: &[u8]) -> Result<Tree, Refusal<GmlFault>>
 
 /// A law: every text has exactly one tree or exactly one first fault, and never both.
 pub fn has_one_answer(text: &[u8])
-    ensures { HasOneAnswer text.now }
+    ensures { HasOneAnswer (Spells text.now) (FirstFault text.now) }
 {
     let _ = text;
 }
@@ -110,19 +103,53 @@ mod tests {
         Ok(())
     }
 
+    /// Each pair of the tree: its key, where its value stands, and the value.
+    fn show(alloc: Global, tree: &Tree, shown: &mut Vec<u8>) -> Result<(), Fail> {
+        for pair in tree.pairs.as_slice() {
+            shown.extend_from_slice(pair.key.as_slice())?;
+            shown.extend_from_slice(format!(in alloc; " {} ", pair.at)?.as_bytes())?;
+            match &pair.value {
+                Value::Whole(word) => show_word(b"whole ", word.as_slice(), shown)?,
+                Value::Real(word) => show_word(b"real ", word.as_slice(), shown)?,
+                Value::Text(inside) => show_word(b"text ", inside.as_slice(), shown)?,
+                Value::Inner(inner) => {
+                    shown.extend_from_slice(b"[ ")?;
+                    show(alloc, inner, shown)?;
+                    shown.extend_from_slice(b"] ")?;
+                }
+            }
+        }
+        Ok(())
+    }
+
+    fn show_word(kind: &[u8], word: &[u8], shown: &mut Vec<u8>) -> Result<(), Fail> {
+        shown.extend_from_slice(kind)?;
+        shown.extend_from_slice(word)?;
+        shown.push(b' ')?;
+        Ok(())
+    }
+
     #[test]
     fn trees(rt: HostRuntime) -> Result<(), Fail> {
+        let alloc = rt.alloc();
         let texts = [
-            (b"".as_slice(), 0),
-            (b"# no pair".as_slice(), 0),
-            (b"a 1".as_slice(), 1),
-            (b"_a1[]B\"\xc3\xb6#]\n\"c -.5E+07 d +0 #x\n".as_slice(), 4),
-            (b"a[b 1]#x\nc 5.\n#y\nd\t2".as_slice(), 3),
+            (b"".as_slice(), b"".as_slice()),
+            (b"# no pair".as_slice(), b"".as_slice()),
+            (
+                b"_a1[]B\"\xc3\xb6#]\n\"c -.5E+07 d +0 #x\n".as_slice(),
+                b"_a1 3 [ ] B 6 text \xc3\xb6#]\n c 15 real -.5E+07 d 25 whole +0 ".as_slice(),
+            ),
+            (
+                b"a[b 1]#x\nc 5.\n#y\nd\t2".as_slice(),
+                b"a 1 [ b 4 whole 1 ] c 11 real 5. d 19 whole 2 ".as_slice(),
+            ),
         ];
-        for (text, pairs) in texts {
+        for (text, want) in texts {
             assert!(rt; text.len() < 1000);
-            let tree = read_tree(rt.alloc(), text)?;
-            assert_eq!(rt; tree.pairs.len(), pairs);
+            let tree = read_tree(alloc, text)?;
+            let mut shown = Vec::new(alloc);
+            show(alloc, &tree, &mut shown)?;
+            assert_eq!(rt; shown.as_slice(), want);
         }
         Ok(())
     }

@@ -1,24 +1,32 @@
-ghost use Rattle.std.specs.Prelude.{◌≡◌, ◌+◌, ◌<◌, ◌≤◌, length, IfOk};
+//! The reader of a text: the lists that are open, and one pass over the bytes.
+
+ghost use Rattle.std.specs.Prelude.{◌≤◌, length};
 ghost use Rattle.compact_types.specs.Refusals.{Gives};
-ghost use Rattle.gml_text.specs.Reading.{answer_of};
-ghost use Rattle.gml_text.specs.Texts.{most_bytes};
+ghost use Rattle.gml_text.specs.declared.limits.TheConstants.{MOST_BYTES};
+ghost use Rattle.gml_text.specs.inner.Reading as machine;
 
 mod steps;
 
 use crate::fault::GmlFault;
 use crate::tree::{Pair, Tree};
-use compact_types::items::Items;
-use compact_types::refusal::Refusal;
+use compact_types::{Items, Refusal};
 use std::alloc::Global;
 
-/// What was read of the list around an open list.
-#[derive(Debug, Drop)]
-pub(crate) struct Parent {
-    pub(crate) before: Items<Pair>,
-    /// The key of the open list.
-    pub(crate) key: Items<u8>,
-    /// Where the `[` of the open list stands.
-    pub(crate) at: u32,
+/// The tree of the text or its first fault.
+pub(crate) fn read(alloc: Global, bytes: &[u8]) -> Result<Tree, Refusal<GmlFault>>
+    requires { length bytes.now ≤ MOST_BYTES }
+    ensures { Gives result (machine.answer_of bytes.now) }
+{
+    let mut reader = Reader {
+        parents: Items::new(alloc),
+        pairs: Items::new(alloc),
+        at: 0,
+    };
+    while (reader.at as usize) < bytes.len() {
+        let (_, text) = bytes.split_at(reader.at as usize);
+        reader = steps::step(alloc, reader, text)?;
+    }
+    steps::finish(reader).map_err(Refusal::Fault)
 }
 
 /// What was read of a text, up to a place where a key may stand.
@@ -32,19 +40,12 @@ pub(crate) struct Reader {
     pub(crate) at: u32,
 }
 
-/// The tree of the text or its first fault, in one pass over it.
-pub(crate) fn read(alloc: Global, bytes: &[u8]) -> Result<Tree, Refusal<GmlFault>>
-    requires { length bytes.now ≤ most_bytes }
-    ensures { Gives result (answer_of bytes.now) }
-{
-    let mut reader = Reader {
-        parents: Items::new(alloc),
-        pairs: Items::new(alloc),
-        at: 0,
-    };
-    while (reader.at as usize) < bytes.len() {
-        let (_, text) = bytes.split_at(reader.at as usize);
-        reader = steps::step(alloc, reader, text)?;
-    }
-    steps::finish(reader).map_err(Refusal::Fault)
+/// What was read of the list around an open list.
+#[derive(Debug, Drop)]
+pub(crate) struct Parent {
+    pub(crate) before: Items<Pair>,
+    /// The key of the open list.
+    pub(crate) key: Items<u8>,
+    /// Where the `[` of the open list stands.
+    pub(crate) at: u32,
 }

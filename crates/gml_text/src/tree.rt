@@ -1,4 +1,6 @@
-use compact_types::items::Items;
+//! The tree of a text.
+
+use compact_types::Items;
 
 /// A list of pairs: a whole text, or what stands between two brackets.
 #[cycle(tree)]

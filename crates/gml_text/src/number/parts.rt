@@ -3,8 +3,13 @@
 ghost use Rattle.std.specs.Prelude.{◌≡◌, is_some, nat_lt, ◌+◌, ◌≤◌, length};
 ghost use Rattle.std.specs.List.{list_all, prefix_len};
 ghost use Rattle.gml_text.specs.Bytes.{is_digit};
-ghost use Rattle.gml_text.specs.NumeralKinds.{HasTheParts, is_exponent, exponent_of, is_minus, sign_of, after_sign, front_digits, after_digits, fraction_of, after_fraction};
+ghost use Rattle.gml_text.specs.NumeralKinds.{is_exponent, exponent_of, sign_of, after_sign};
+ghost use Rattle.gml_text.specs.NumeralKinds.{front_digits, after_digits};
+ghost use Rattle.gml_text.specs.NumeralKinds.{fraction_of, after_fraction};
 ghost use Rattle.gml_text.specs.Numerals.{are_digits, fraction_digits};
+ghost use Rattle.gml_text.specs.inner.Parts.{HasTheParts, is_minus};
+
+use crate::marks::{CAPITAL_E, MINUS, PLUS, POINT, SMALL_E};
 
 /// The parts of a word, whether or not it is a numeral.
 #[derive(Drop)]
@@ -17,9 +22,11 @@ pub(crate) struct Parts<'a> {
     pub(crate) exponent: &'a [u8],
 }
 
+/// Cuts a word; what is no digit of its fraction is left for the exponent.
 #[tactic(auto, unfolding(crate::specs::NumeralKinds::parts_of))]
 pub(crate) fn parts_of(word: &[u8]) -> Parts<'_>
-    ensures { HasTheParts word.now result.minus result.whole.now result.point result.fraction.now result.exponent.now }
+    ensures { HasTheParts word.now result.minus result.whole.now result.point
+        result.fraction.now result.exponent.now }
 {
     let minus = begins_minus(word);
     let (whole, rest) = split_digits(after_sign(word));
@@ -33,10 +40,11 @@ pub(crate) fn parts_of(word: &[u8]) -> Parts<'_>
     }
 }
 
+/// Whether a `-` stands at the front.
 pub(crate) fn begins_minus(word: &[u8]) -> bool
     ensures { result ≡ is_minus (sign_of word.now) }
 {
-    matches!(word, [b'-', ..])
+    matches!(word, [MINUS, ..])
 }
 
 /// What follows the sign at the front, if there is one.
@@ -44,7 +52,7 @@ pub(crate) fn after_sign(word: &[u8]) -> &[u8]
     ensures { result.now ≡ after_sign word.now }
 {
     match word {
-        [b'+' | b'-', rest @ ..] => rest,
+        [PLUS | MINUS, rest @ ..] => rest,
         _ => word,
     }
 }
@@ -72,7 +80,7 @@ fn split_fraction(text: &[u8]) -> (bool, &[u8], &[u8])
     ensures rest { result.2.now ≡ after_fraction text.now }
 {
     match text {
-        [b'.', rest @ ..] => {
+        [POINT, rest @ ..] => {
             let (fraction, exponent) = split_digits(rest);
             (true, fraction, exponent)
         }
@@ -80,6 +88,7 @@ fn split_fraction(text: &[u8]) -> (bool, &[u8], &[u8])
     }
 }
 
+/// Whether there is a digit before the exponent.
 pub(crate) fn have_digit(whole: &[u8], fraction: &[u8]) -> bool
     ensures { result ≡ nat_lt 0 (length whole.now + length fraction.now) }
 {
@@ -92,7 +101,7 @@ pub(crate) fn is_exponent(text: &[u8]) -> bool
 {
     match text {
         [] => true,
-        [b'e' | b'E', rest @ ..] => are_digits(after_sign(rest)),
+        [SMALL_E | CAPITAL_E, rest @ ..] => are_digits(after_sign(rest)),
         _ => false,
     }
 }

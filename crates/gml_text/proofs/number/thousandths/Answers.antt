@@ -1,26 +1,34 @@
+use Rattle.gml_text.proofs.ThousandthsFunction.{thousandths_are}
 use Rattle.gml_text.proofs.ThousandthsLemmas.{cut_numeral, cut_answer}
 use Rattle.gml_text.proofs.number.thousandths.Goals as goal
 
-pub thousandths_of-requires-clause-whole : goal.thousandths_of-requires-clause-whole
-thousandths_of-requires-clause-whole c =
+pub scale_to_thousandths-magnitude-requires-clause-whole : goal.scale_to_thousandths-magnitude-requires-clause-whole
+scale_to_thousandths-magnitude-requires-clause-whole c =
     (cut_numeral _ _ _ _ _ _ c.requires c.parts_of-parts.ensures).whole_digits
 
-pub thousandths_of-requires-clause-fraction : goal.thousandths_of-requires-clause-fraction
-thousandths_of-requires-clause-fraction c =
+pub scale_to_thousandths-magnitude-requires-clause-fraction : goal.scale_to_thousandths-magnitude-requires-clause-fraction
+scale_to_thousandths-magnitude-requires-clause-fraction c =
     (cut_numeral _ _ _ _ _ _ c.requires c.parts_of-parts.ensures).fraction_digits
 
-pub thousandths_of-requires-clause-exponent : goal.thousandths_of-requires-clause-exponent
-thousandths_of-requires-clause-exponent c =
+pub scale_to_thousandths-magnitude-requires-clause-exponent : goal.scale_to_thousandths-magnitude-requires-clause-exponent
+scale_to_thousandths-magnitude-requires-clause-exponent c =
     (cut_numeral _ _ _ _ _ _ c.requires c.parts_of-parts.ensures).exponent_right
+
+pub returns-clause-answer : goal.returns-clause-answer
+returns-clause-answer c =
+    thousandths_are c.args.lexeme.now c.with_sign.result c.requires
+    (λ n p. rw (c.with_sign.ensures) (cut_answer _ n _ _ _ _ _ _ c.parts_of-parts.ensures p c.scale_to_thousandths-magnitude.ensures).value)
+    (λ n p. rw (c.with_sign.ensures) (cut_answer _ n _ _ _ _ _ _ c.parts_of-parts.ensures p c.scale_to_thousandths-magnitude.ensures).too_fine)
+    (λ n p. rw (c.with_sign.ensures) (cut_answer _ n _ _ _ _ _ _ c.parts_of-parts.ensures p c.scale_to_thousandths-magnitude.ensures).out_of_range)
 
 pub returns-clause-value : goal.returns-clause-value
 returns-clause-value c = λ n p.
-    rw (c.with_sign.ensures) (cut_answer _ n _ _ _ _ _ _ c.parts_of-parts.ensures p c.thousandths_of.ensures).value
+    rw (c.with_sign.ensures) (cut_answer _ n _ _ _ _ _ _ c.parts_of-parts.ensures p c.scale_to_thousandths-magnitude.ensures).value
 
 pub returns-clause-too_fine : goal.returns-clause-too_fine
 returns-clause-too_fine c = λ n p.
-    rw (c.with_sign.ensures) (cut_answer _ n _ _ _ _ _ _ c.parts_of-parts.ensures p c.thousandths_of.ensures).too_fine
+    rw (c.with_sign.ensures) (cut_answer _ n _ _ _ _ _ _ c.parts_of-parts.ensures p c.scale_to_thousandths-magnitude.ensures).too_fine
 
 pub returns-clause-out_of_range : goal.returns-clause-out_of_range
 returns-clause-out_of_range c = λ n p.
-    rw (c.with_sign.ensures) (cut_answer _ n _ _ _ _ _ _ c.parts_of-parts.ensures p c.thousandths_of.ensures).out_of_range
+    rw (c.with_sign.ensures) (cut_answer _ n _ _ _ _ _ _ c.parts_of-parts.ensures p c.scale_to_thousandths-magnitude.ensures).out_of_range

@@ -1,6 +1,6 @@
 use Rattle.std.proofs.Common.{◌<◌, ◌∙◌, sym, arith}
 use Rattle.std.proofs.lemmas.Result.{err_from_is_err_and}
-use Rattle.gml_text.specs.Reading.{state_of}
+use Rattle.gml_text.specs.inner.Reading.{state_of}
 use Rattle.gml_text.proofs.Runs.{run-step, Gives-refusal}
 use Rattle.gml_text.proofs.reader.read.Goals as goal
 

@@ -1,5 +1,5 @@
 use Rattle.std.proofs.Common.{◌≡◌, ◌-◌, ◌≤◌, length, drop}
-use Rattle.gml_text.specs.Reading.{run, state_of, answer_of}
+use Rattle.gml_text.specs.inner.Reading.{run, state_of, answer_of}
 use Rattle.gml_text.proofs.reader.read.Given as goal
 
 abbrev pub invariant-loop-reader : goal.invariant-loop-reader

@@ -1,15 +1,19 @@
 -- A number of thousandths by the digits of a numeral and by the powers of ten above and below them.
-use Rattle.std.specs.Prelude.{◌≡◌, ℤ, pos, ◌-ℤ◌, ℕ, ◌+◌, ◌*◌, ◌^◌, ◌<◌, ◌≤◌, ◌-◌, ◌%◌, ◌≢◌, ◌++◌, length, Bool, true, false, List, [], ◌∷◌, ◌==◌, Option, None, Some, Result, Ok, Err}
+use Rattle.std.specs.Prelude.{◌≡◌, ℤ, pos, ◌-ℤ◌, ℕ, ◌+◌, ◌*◌, ◌^◌, ◌<◌, ◌≤◌, ◌-◌, ◌%◌, ◌≢◌, ◌++◌}
+use Rattle.std.specs.Prelude.{length, Bool, true, false, List, [], ◌∷◌, ◌==◌, Option, None, Some}
+use Rattle.std.specs.Prelude.{Result, Ok, Err}
 use Rattle.std.specs.List.{list_all}
+use Rattle.compact_types.specs.declared.limits.TheConstants.{GREATEST_THOUSANDTHS}
+use Rattle.gml_text.specs.declared.marks.TheConstants.{ZERO}
 use Rattle.gml_text.specs.Bytes.{is_digit}
 use Rattle.gml_text.specs.declared.number.NumberFault.{NumberFault}
 use Rattle.gml_text.specs.declared.number.NumberFault.TheVariants.{TooFine, OutOfRange}
-use Rattle.gml_text.specs.Numerals.{Sign, no_sign, plus, minus, Exponent, digits_value, most_thousandths}
+use Rattle.gml_text.specs.Numerals.{Sign, no_sign, plus, minus, Exponent, digits_value}
 
 -- whether the last digit is 0, or `before` where there is no digit
 abbrev pub ends_in_zero_after : Bool → List ℕ → Bool
 ends_in_zero_after before [] = before
-ends_in_zero_after before (b ∷ digits) = ends_in_zero_after (b == 48) digits
+ends_in_zero_after before (b ∷ digits) = ends_in_zero_after (b == ZERO) digits
 
 abbrev pub ends_in_zero : List ℕ → Bool
 ends_in_zero digits = ends_in_zero_after false digits
@@ -40,9 +44,11 @@ IsRaised number above below t = t * 10 ^ below ≡ number * 10 ^ above
 
 -- the answer is that t, within the range, or says why there is none
 abbrev pub IsRaisedOrFault : (number above below : ℕ) → Result ℕ NumberFault → Type 0
-IsRaisedOrFault number above below (Ok t) = IsRaised number above below t × (t ≤ most_thousandths)
+IsRaisedOrFault number above below (Ok t) =
+    IsRaised number above below t × (t ≤ GREATEST_THOUSANDTHS)
 IsRaisedOrFault number above below (Err TooFine) = (t : ℕ) → IsRaised number above below t → ⊥
-IsRaisedOrFault number above below (Err OutOfRange) = (t : ℕ) × IsRaised number above below t × (most_thousandths < t)
+IsRaisedOrFault number above below (Err OutOfRange) =
+    (t : ℕ) × IsRaised number above below t × (GREATEST_THOUSANDTHS < t)
 
 -- these are left of the digits without the zeros at their end
 pub record IsKept (whole fraction kept_whole kept_fraction : List ℕ) : Type 0 where
@@ -51,8 +57,10 @@ pub record IsKept (whole fraction kept_whole kept_fraction : List ℕ) : Type 0 
   pub whole_digits : list_all is_digit kept_whole ≡ true
   pub fraction_digits : list_all is_digit kept_fraction ≡ true
   pub number : digits_value (whole ++ fraction) ≡
-      digits_value (kept_whole ++ kept_fraction) * 10 ^ ((length whole - length kept_whole) + (length fraction - length kept_fraction))
-  pub last : 0 < length kept_whole + length kept_fraction → digits_value (kept_whole ++ kept_fraction) % 10 ≢ 0
+      digits_value (kept_whole ++ kept_fraction) *
+      10 ^ ((length whole - length kept_whole) + (length fraction - length kept_fraction))
+  pub last : 0 < length kept_whole + length kept_fraction →
+      digits_value (kept_whole ++ kept_fraction) % 10 ≢ 0
 
 -- the magnitude with a sign
 abbrev pub signed : Bool → ℕ → ℤ

@@ -1,7 +1,7 @@
 use Rattle.std.proofs.Common.{arith}
 use Rattle.std.proofs.lemmas.Bool.Decides.{nat_tests}
 use Rattle.gml_text.proofs.EndZeros.{kept_both, kept_whole}
-use Rattle.gml_text.proofs.number.scale.kept_digits.Goals as goal
+use Rattle.gml_text.proofs.number.scale.leave_out_end_zeros.Goals as goal
 
 pub returns-then-is_empty : goal.returns-then-is_empty
 returns-then-is_empty c =

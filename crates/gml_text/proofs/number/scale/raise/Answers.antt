@@ -1,6 +1,6 @@
 use Rattle.std.proofs.Common.{refl}
 use Rattle.gml_text.proofs.Scaling.{many_tens}
-use Rattle.gml_text.proofs.number.scale.raised.Goals as goal
+use Rattle.gml_text.proofs.number.scale.raise.Goals as goal
 
 pub returns-then-tens-gt13 : goal.returns-then-tens-gt13
 returns-then-tens-gt13 c = (refl, many_tens c.args.number c.args.tens c.requires c.if-tens-gt13.true)
