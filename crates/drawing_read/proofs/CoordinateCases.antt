@@ -4,8 +4,9 @@ use Rattle.std.specs.Prelude.{codes}
 use Rattle.compact_types.specs.declared.places.Axis.{Axis}
 use Rattle.gml_text.specs.declared.tree.Pair.{Pair}
 use Rattle.drawing_read.specs.declared.reading.Spot.{Spot}
-use Rattle.drawing_read.specs.declared.route.Span.{Span}
-use Rattle.drawing_read.specs.Spots.{coordinate_spots, inside, point_vertex, point_spots, no_span, graph_spots}
+use Rattle.drawing_read.specs.declared.spans.Span.{Span}
+use Rattle.drawing_read.specs.Spots.{coordinate_spots, inside, point_spots, graph_spots}
+use Rattle.drawing_read.specs.Spans.{point_vertex, no_span}
 use Rattle.drawing_read.specs.Coordinates.{IsListNumber, IsPointNumber, IsCoordinate, of_axis}
 use Rattle.drawing_read.specs.Coordinates.IsCoordinate.{of_node, of_point}
 use Rattle.drawing_read.proofs.CoordinateSpots.{IsOneOfBoth, IsInside, one_of_both, of_both, list_of_inside, inside_of_list}

@@ -6,9 +6,9 @@ use Rattle.compact_types.specs.declared.places.Axis.{Axis}
 use Rattle.compact_types.specs.declared.places.Axis.TheVariants.{X, Y}
 use Rattle.gml_text.specs.declared.tree.Pair.{Pair}
 use Rattle.drawing_read.specs.declared.reading.Spot.{Spot}
-use Rattle.drawing_read.specs.Lookups.{first_list, place_under}
+use Rattle.drawing_read.specs.Lookups.{first_list, place_under, IsListAt}
 use Rattle.drawing_read.specs.Spots.{spot as spot_at, in_order, coordinate_spots, inside}
-use Rattle.drawing_read.specs.Coordinates.{HasBoth, IsListAt, of_axis}
+use Rattle.drawing_read.specs.Coordinates.{HasBoth, of_axis}
 
 -- nothing is in an empty list
 pub none_there : (s : Spot) → Contains [] s → ⊥

@@ -1,28 +1,25 @@
--- The pieces of a graph without a fault join vertices.
-use Rattle.std.proofs.Common.{◌≡◌, ℕ, zero, suc, ◌+◌, ◌<◌, ◌≤◌, ℤ, Bool, true, false, List, [], ◌∷◌, ◌++◌, length, map, Option, None, Some, refl, arith, length-append, pos, cond, ltb}
+-- The pieces of a graph with a node join vertices.
+use Rattle.std.proofs.Common.{◌≡◌, ℕ, zero, suc, ◌+◌, ◌<◌, ◌≤◌, ℤ, List, [], ◌∷◌, ◌++◌, length, map, Option, None, Some, refl, arith, length-append, pos}
 use Rattle.std.specs.Prelude.{unwrap_or}
 use Rattle.std.specs.List.{range_with_len, position}
-use Rattle.std.specs.Option.{option_map, option_or}
-use Rattle.std.proofs.lemmas.Bool.Decides.{nat_tests}
-use Rattle.drawing_read.specs.declared.fault.DrawFault.TheVariants.{TooManyVertices, TooManyPieces}
 use Rattle.std.specs.Ordering.{int_eq}
 use Rattle.std.proofs.lemmas.List.{length-map}
 use Rattle.std.proofs.lemmas.List.Quantifiers.{position-Some}
 use Rattle.compact_types.specs.declared.places.Point.{Point}
 use Rattle.compact_types.specs.declared.plan.Piece.{Piece}
 use Rattle.compact_types.specs.Lookups.{EndsAreVertices}
-use Rattle.drawing_read.specs.declared.fault.DrawFault.{DrawFault}
-use Rattle.drawing_read.specs.declared.written.WholeNumber.{WholeNumber}
-use Rattle.drawing_read.specs.declared.written.WholeNumber.TheVariants.{Absent, Other, Beyond, Fits}
+use Rattle.drawing_read.specs.declared.numerals.WholeNumber.{WholeNumber}
+use Rattle.drawing_read.specs.declared.numerals.WholeNumber.TheVariants.{Absent, Other, Beyond, Fits}
 use Rattle.drawing_read.specs.declared.written.Node.{Node}
 use Rattle.drawing_read.specs.declared.written.Edge.{Edge}
 use Rattle.drawing_read.specs.declared.written.Graph.{Graph}
-use Rattle.drawing_read.specs.Routes.{number_of_id, node_with, id_of, ids_of, point_of, node_points, route_of, routes_by, bends_of, spans_from, chain, pieces_of, points_in, pieces_in}
-use Rattle.drawing_read.specs.DrawFaults.{too_many, id_fault, repeated_fault, place_fault, edge_fault, size_fault, graph_fault}
+use Rattle.drawing_read.specs.Ids.{number_of_id, node_with, id_of, ids_of}
+use Rattle.drawing_read.specs.Routes.{point_of, node_points, route_of, routes_by}
+use Rattle.drawing_read.specs.Spans.{bends_of, spans_from, chain, pieces_of, points_in, pieces_in}
 use Rattle.drawing_read.proofs.RouteLemmas.{all_bends, bends_cons}
 
 -- an end that names a node, or no node, is a number of a node
-end_below : (ids : List ℤ) (end : WholeNumber) → 0 < length ids → unwrap_or (node_with (number_of_id ids) end) 0 < length ids
+pub end_below : (ids : List ℤ) (end : WholeNumber) → 0 < length ids → unwrap_or (node_with (number_of_id ids) end) 0 < length ids
 end_below ids Absent some = some
 end_below ids Other some = some
 end_below ids Beyond some = some
@@ -65,43 +62,10 @@ module _ (most : ℕ) (ids : List ℤ) (nodes : List Point) (some : 0 < length i
       (chain_ends most route.source first (length (bends_of nodes route)) route.target (omega arith) (omega arith) (omega arith))
       (pieces_ends (first + length (bends_of nodes route)) edges (omega arith))
 
-or_none : {X : Type 0} (a b : Option X) → option_or a b ≡ None → a ≡ None
-or_none None b is = refl
-or_none (Some x) b is = absurd (cc)
-
-some_nodes : (nodes : List Node) → id_fault nodes ≡ None → 0 < length nodes
-some_nodes [] is = absurd (cc)
-some_nodes (node ∷ nodes) is = omega arith
-
--- the pieces of a graph without a fault join its vertices
-pub pieces_join_vertices : (graph : Graph) → graph_fault graph ≡ None → EndsAreVertices (length (points_in graph)) (pieces_in graph)
-pieces_join_vertices graph none =
-    let good : id_fault graph.nodes ≡ None = or_none (id_fault graph.nodes)
-    (option_or (repeated_fault graph.nodes) (option_or (place_fault graph)
-    (option_or (edge_fault (number_of_id (ids_of graph.nodes)) graph.edges) (size_fault (length (points_in graph)) (length (pieces_in graph)))))) none in
+-- the pieces of a graph with a node join its vertices
+pub pieces_join_vertices : (graph : Graph) → 0 < length graph.nodes → EndsAreVertices (length (points_in graph)) (pieces_in graph)
+pieces_join_vertices graph node =
     let count = length-append (node_points graph.nodes) (all_bends (node_points graph.nodes) (routes_by (number_of_id (ids_of graph.nodes)) graph)) in
     let points = length-map graph.nodes (λ (node : Node). point_of node.place) in
     let ids = length-map graph.nodes id_of in
-    let some = some_nodes graph.nodes good in
     pieces_ends (length (points_in graph)) (ids_of graph.nodes) (node_points graph.nodes) (omega arith) (omega arith) (length (node_points graph.nodes)) graph.edges (omega arith)
-
-or_rest : {X : Type 0} (a b : Option X) → option_or a b ≡ None → b ≡ None
-or_rest None b is = is
-or_rest (Some x) b is = absurd (cc)
-
-not_too_many : (most count : ℕ) (rest : Option DrawFault) → option_or (option_map (λ c. TooManyVertices c) (too_many most count)) rest ≡ None → count ≤ most
-not_too_many most count rest is = by (ltb most count) refl (or_none (option_map (λ c. TooManyVertices c) (too_many most count)) rest is)
-  where
-    by : (b : Bool) → ltb most count ≡ b → option_map (λ c. TooManyVertices c) (cond b (Some count) None) ≡ None → count ≤ most
-    by true test none = absurd (cc)
-    by false test none = grind (arith, nat_tests)
-
--- a graph without a fault has at most 1,000 vertices
-pub few_vertices : (graph : Graph) → graph_fault graph ≡ None → length (points_in graph) ≤ 1000
-few_vertices graph none =
-    let sizes = size_fault (length (points_in graph)) (length (pieces_in graph)) in
-    let edges = edge_fault (number_of_id (ids_of graph.nodes)) graph.edges in
-    let past_ids = or_rest (id_fault graph.nodes) (option_or (repeated_fault graph.nodes) (option_or (place_fault graph) (option_or edges sizes))) none in
-    let past_nodes = or_rest (repeated_fault graph.nodes) (option_or (place_fault graph) (option_or edges sizes)) past_ids in
-    let past_places = or_rest (place_fault graph) (option_or edges sizes) past_nodes in
-    not_too_many 1000 (length (points_in graph)) (option_map (λ c. TooManyPieces c) (too_many 4000 (length (pieces_in graph)))) (or_rest edges sizes past_places)

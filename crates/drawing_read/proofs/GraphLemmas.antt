@@ -1,15 +1,17 @@
 -- The graphs at the top, by the place of the first.
 use Rattle.std.proofs.Common.{◌≡◌, ℕ, zero, suc, ◌<◌, ◌≤◌, Bool, true, false, cond, ltb, List, [], ◌∷◌, length, drop, get_or, Option, None, Some, is_some, refl, sym, ap, ◌∙◌, arith, drop-cons}
-use Rattle.std.specs.Prelude.{codes}
+use Rattle.std.specs.Prelude.{codes, MatchOption}
 use Rattle.std.specs.List.{filter_map, cons_option, position, position_or_len}
 use Rattle.std.proofs.lemmas.Bool.Decides.{nat_tests}
 use Rattle.std.proofs.lemmas.List.Sums.{fails_before_first}
 use Rattle.std.proofs.lemmas.List.Quantifiers.{position-Some}
 use Rattle.gml_text.specs.declared.tree.Pair.{Pair}
-use Rattle.drawing_read.specs.declared.fault.DrawFault.TheVariants.{NoGraph, TwoGraphs}
 use Rattle.drawing_read.specs.Lookups.{list_under, lists_under}
-use Rattle.drawing_read.specs.DrawFaults.{fault_of}
-use Rattle.drawing_read.specs.Passes.{IsOnlyGraph}
+use Rattle.drawing_read.specs.inner.Readable.{AreReadable}
+use Rattle.drawing_read.specs.inner.Passes.{IsFirstGraph, IsOnlyGraph}
+use Rattle.drawing_read.specs.declared.fault.DrawFault.TheVariants.{TwoGraphs}
+use Rattle.drawing_read.specs.declared.lookups.Found.{Found}
+use Rattle.drawing_read.specs.Faults.{fault_of}
 
 module _ {X Y : Type 0} (h : X → Option Y) where
   abbrev is_kept : X → Bool
@@ -53,41 +55,54 @@ module _ {X Y : Type 0} (h : X → Option Y) where
       let found = position-Some is_kept xs i d is in
       none_before xs d i (omega arith) found.2 ∙ ap (filter_map h) (drop-cons xs i d found.0)
 
-two_lists : (o p : Option (List Pair)) (rest : List (List Pair)) → is_some o ≡ true → is_some p ≡ true → fault_of (cons_option o (cons_option p rest)) ≡ Some TwoGraphs
-two_lists None p rest one two = absurd (cc)
-two_lists (Some a) None rest one two = absurd (cc)
-two_lists (Some a) (Some b) rest one two = refl
-
 abbrev pub graph_under : Pair → Option (List Pair)
 graph_under = list_under (codes "graph")
 
-pub no_graph : (pairs : List Pair) → position (λ pair. is_some (graph_under pair)) pairs ≡ None → fault_of (lists_under (codes "graph") pairs) ≡ Some NoGraph
-no_graph pairs none = ap fault_of (none_kept graph_under pairs none)
+abbrev pub is_graph : Pair → Bool
+is_graph pair = is_some (graph_under pair)
 
-pub two_graphs : (pairs : List Pair) (i j : ℕ) (d : Pair) → position (λ pair. is_some (graph_under pair)) pairs ≡ Some i →
-    position (λ pair. is_some (graph_under pair)) (drop (suc i) pairs) ≡ Some j → fault_of (lists_under (codes "graph") pairs) ≡ Some TwoGraphs
-two_graphs pairs i j d first next =
-    ap fault_of (first_kept graph_under pairs i d first ∙ ap (cons_option (graph_under (get_or pairs i d))) (first_kept graph_under (drop (suc i) pairs) j d next))
-    ∙ two_lists (graph_under (get_or pairs i d)) (graph_under (get_or (drop (suc i) pairs) j d)) (filter_map graph_under (drop (suc j) (drop (suc i) pairs)))
-    (position-Some (λ pair. is_some (graph_under pair)) pairs i d first).1 (position-Some (λ pair. is_some (graph_under pair)) (drop (suc i) pairs) j d next).1
+-- no pair is a graph
+pub no_graph : (pairs : List Pair) → position is_graph pairs ≡ None → lists_under (codes "graph") pairs ≡ []
+no_graph pairs none = none_kept graph_under pairs none
 
-pub only_graph : (pairs : List Pair) (i : ℕ) → i < length pairs → position (λ pair. is_some (graph_under pair)) pairs ≡ Some i →
-    position (λ pair. is_some (graph_under pair)) (drop (suc i) pairs) ≡ None → IsOnlyGraph pairs i
-only_graph pairs i within first none = record {
-  within = within;
+-- the first pair that is a graph has a list
+pub graph_there : (pairs : List Pair) (at : ℕ) (pair : Pair) → position is_graph pairs ≡ Some at → pair ≡ get_or pairs at pair → is_graph pair ≡ true
+graph_there pairs at pair first is = ap is_graph is ∙ (position-Some is_graph pairs at pair first).1
+
+pub first_graph_is : (pairs : List Pair) (at : ℕ) (pair : Pair) (list : List Pair) → position is_graph pairs ≡ Some at → pair ≡ get_or pairs at pair →
+    Some list ≡ graph_under pair → (AreReadable pairs → AreReadable list) → IsFirstGraph pairs at list
+first_graph_is pairs at pair list first is there readable = record {
+  within = (position-Some is_graph pairs at pair first).0;
   place = first;
-  only = λ d. first_kept graph_under pairs i d first ∙ ap (cons_option (graph_under (get_or pairs i d))) (none_kept graph_under (drop (suc i) pairs) none);
-  there = λ d. (position-Some (λ pair. is_some (graph_under pair)) pairs i d first).1;
+  lists = first_kept graph_under pairs at pair first
+      ∙ ap (λ (pair : Pair). cons_option (graph_under pair) (lists_under (codes "graph") (drop (suc at) pairs))) (sym is)
+      ∙ ap (λ (o : Option (List Pair)). cons_option o (lists_under (codes "graph") (drop (suc at) pairs))) (sym there);
+  readable = readable;
 }
 
--- the same, by what was found behind the first
-pub more_graphs : (pairs : List Pair) (i : ℕ) (o : Option ℕ) → i < length pairs → position (λ pair. is_some (graph_under pair)) pairs ≡ Some i →
-    o ≡ position (λ pair. is_some (graph_under pair)) (drop (suc i) pairs) → is_some o ≡ true → fault_of (lists_under (codes "graph") pairs) ≡ Some TwoGraphs
-more_graphs [] i o within first is some = absurd (omega arith)
-more_graphs (pair ∷ pairs) i None within first is some = absurd (cc)
-more_graphs (pair ∷ pairs) i (Some j) within first is some = two_graphs (pair ∷ pairs) i j pair first (sym is)
+-- a graph has a list
+pub list_there : (pair : Pair) → is_graph pair ≡ true → None ≡ graph_under pair → ⊥
+list_there pair some none = by (graph_under pair) some none
+  where
+    by : (o : Option (List Pair)) → is_some o ≡ true → None ≡ o → ⊥
+    by None some none = absurd (cc)
+    by (Some list) some none = absurd (cc)
 
-pub no_more_graphs : (pairs : List Pair) (i : ℕ) (o : Option ℕ) → i < length pairs → position (λ pair. is_some (graph_under pair)) pairs ≡ Some i →
-    o ≡ position (λ pair. is_some (graph_under pair)) (drop (suc i) pairs) → is_some o ≡ false → IsOnlyGraph pairs i
-no_more_graphs pairs i None within first is none = only_graph pairs i within first (sym is)
-no_more_graphs pairs i (Some j) within first is none = absurd (cc)
+-- what was found behind the first graph
+pub two_graphs : (pairs : List Pair) (at : ℕ) (list rest : List Pair) (found : Option Found) → IsFirstGraph pairs at list → rest ≡ drop (suc at) pairs →
+    MatchOption found (lists_under (codes "graph") rest ≡ []) (λ graph. IsFirstGraph rest graph.place graph.pairs.now) →
+    is_some found ≡ true → fault_of (lists_under (codes "graph") pairs) ≡ Some TwoGraphs
+two_graphs pairs at list rest None first is next some = absurd (cc)
+two_graphs pairs at list rest (Some graph) first is next some =
+    ap fault_of (first.lists ∙ ap (λ (rest : List Pair). list ∷ lists_under (codes "graph") rest) (sym is) ∙ ap (λ (lists : List (List Pair)). list ∷ lists) next.lists)
+
+pub one_graph : (pairs : List Pair) (at : ℕ) (list rest : List Pair) (found : Option Found) → IsFirstGraph pairs at list → rest ≡ drop (suc at) pairs →
+    MatchOption found (lists_under (codes "graph") rest ≡ []) (λ graph. IsFirstGraph rest graph.place graph.pairs.now) →
+    is_some found ≡ false → IsOnlyGraph pairs at list
+one_graph pairs at list rest (Some graph) first is next none = absurd (cc)
+one_graph pairs at list rest None first is next none = record {
+  within = first.within;
+  place = first.place;
+  only = first.lists ∙ ap (λ (rest : List Pair). list ∷ lists_under (codes "graph") rest) (sym is) ∙ ap (λ (lists : List (List Pair)). list ∷ lists) next;
+  readable = first.readable;
+}

@@ -1,47 +1,15 @@
 -- Which node has an id, as the map of ids grows.
 use Rattle.std.proofs.Common.{◌≡◌, ℕ, zero, suc, ◌+◌, ◌<◌, ◌≤◌, ℤ, pos, Bool, true, false, cond, eqb, ltb, List, [], ◌∷◌, ◌++◌, length, take, get_or, Option, None, Some, is_some, refl, sym, ap, ◌∙◌, subst, arith, add-zero, zero-add, add-one, not}
 use Rattle.std.specs.List.{find, position, position_or_len, range_with_len}
-use Rattle.std.specs.Option.{option_map}
+use Rattle.std.specs.Option.{option_or}
 use Rattle.std.specs.Ordering.{int_eq}
 use Rattle.std.proofs.lemmas.Cmp.{int_eq_equiv}
 use Rattle.std.proofs.lemmas.Bool.Decides.{Decides-int_eq, nat_tests}
 use Rattle.std.proofs.lemmas.List.{take_more, length_push, length-take-le, length-map, get_or-map}
 use Rattle.std.proofs.lemmas.List.Sums.{prefix_len-le-length}
-use Rattle.std.proofs.lemmas.List.Folds.{position_or_len_push}
-use Rattle.drawing_read.specs.declared.fault.DrawFault.TheVariants.{RepeatedId}
+use Rattle.std.proofs.lemmas.List.Folds.{position_or_len_push, find-append}
 use Rattle.drawing_read.specs.declared.written.Node.{Node}
-use Rattle.drawing_read.specs.Routes.{number_of_id, id_of, ids_of}
-use Rattle.drawing_read.specs.DrawFaults.{repeats_id, first_repeated}
-
-module _ (p : ℕ → Bool) where
-  found_next : (a n k : ℕ) (b : Bool) →
-      (find p (range_with_len (a + 1) n) ≡ None → p (a + 1 + n) ≡ true → n < k → find p (range_with_len (a + 1) k) ≡ Some (a + 1 + n)) →
-      cond b (Some a) (find p (range_with_len (a + 1) n)) ≡ None → p (a + suc n) ≡ true → n < k →
-      cond b (Some a) (find p (range_with_len (a + 1) k)) ≡ Some (a + suc n)
-  found_next a n k true rest none here below = absurd (cc)
-  found_next a n k false rest none here below =
-      let e : a + 1 + n ≡ a + suc n = omega arith in
-      subst (λ (m : ℕ). find p (range_with_len (a + 1) k) ≡ Some m) e (rest none (ap p e ∙ here) below)
-
-  -- the first number that passes, among k from a on
-  pub found_at : (a n k : ℕ) → find p (range_with_len a n) ≡ None → p (a + n) ≡ true → n < k → find p (range_with_len a k) ≡ Some (a + n)
-  found_at a n zero none here below = absurd (omega arith)
-  found_at a zero (suc k) none here below =
-      let e : p a ≡ true = ap p (sym (add-zero a)) ∙ here in
-      ap (λ b. cond b (Some a) (find p (range_with_len (a + 1) k))) e ∙ ap Some (sym (add-zero a))
-  found_at a (suc n) (suc k) none here below = found_next a n k (p a) (found_at (a + 1) n k) none here (omega arith)
-
-  none_next : (a n : ℕ) (b : Bool) →
-      (find p (range_with_len (a + 1) n) ≡ None → p (a + 1 + n) ≡ false → find p (range_with_len (a + 1) (suc n)) ≡ None) →
-      cond b (Some a) (find p (range_with_len (a + 1) n)) ≡ None → p (a + suc n) ≡ false →
-      cond b (Some a) (find p (range_with_len (a + 1) (suc n))) ≡ None
-  none_next a n true rest none here = none
-  none_next a n false rest none here = let e : a + 1 + n ≡ a + suc n = omega arith in rest none (ap p e ∙ here)
-
-  -- none of one more number passes
-  pub none_more : (a n : ℕ) → find p (range_with_len a n) ≡ None → p (a + n) ≡ false → find p (range_with_len a (suc n)) ≡ None
-  none_more a zero none here = ap (λ b. cond b (Some a) None) (ap p (sym (add-zero a)) ∙ here)
-  none_more a (suc n) none here = none_next a n (p a) (none_more (a + 1) n) none here
+use Rattle.drawing_read.specs.Ids.{number_of_id, id_of, ids_of, repeats_id}
 
 push_number : (k l m : ℕ) (b : Bool) → k ≤ l → m ≡ cond (eqb k l) (l + cond b 0 1) k →
     cond (ltb m (l + 1)) (Some m) None ≡ cond (is_some (cond (ltb k l) (Some k) None)) (cond (ltb k l) (Some k) None) (cond b (Some l) None)
@@ -92,25 +60,65 @@ ids_more nodes n d within =
     take_more (ids_of nodes) n (pos 0) (subst (λ l. n < l) (sym (length-map nodes id_of)) within)
     ∙ ap (λ (id : ℤ). take n (ids_of nodes) ++ id ∷ []) (id_at nodes n d (pos 0) within)
 
+-- one more number
+range_push : (a n : ℕ) → range_with_len a (suc n) ≡ range_with_len a n ++ (a + n) ∷ []
+range_push a zero = ap (λ (k : ℕ). k ∷ []) (sym (add-zero a))
+range_push a (suc n) =
+    let e : a + 1 + n ≡ a + suc n = omega arith in
+    ap (λ (ks : List ℕ). a ∷ ks) (range_push (a + 1) n ∙ ap (λ (k : ℕ). range_with_len (a + 1) n ++ k ∷ []) e)
+
+-- an id that an earlier node has
+look_same : (ids : List ℤ) (x : ℤ) (look : ℤ → Option ℕ) → ((q : ℤ) → look q ≡ number_of_id ids q) → is_some (look x) ≡ true →
+    (q : ℤ) → look q ≡ number_of_id (ids ++ x ∷ []) q
+look_same ids x look known seen q = by (int_eq q x) refl
+  where
+    pushed : number_of_id (ids ++ x ∷ []) q ≡ cond (is_some (look q)) (look q) (cond (int_eq q x) (Some (length ids)) None)
+    pushed = rw (known q) (position_push (int_eq q) ids x)
+
+    by : (b : Bool) → int_eq q x ≡ b → look q ≡ number_of_id (ids ++ x ∷ []) q
+    by true is =
+        let same : x ≡ q = sym ((Decides-int_eq q x).0 is) in
+        let some : is_some (look q) ≡ true = ap (λ (z : ℤ). is_some (look z)) (sym same) ∙ seen in
+        sym (pushed ∙ ap (λ b. cond b (look q) (cond (int_eq q x) (Some (length ids)) None)) some)
+    by false is = sym (pushed ∙ ap (λ b. cond (is_some (look q)) (look q) (cond b (Some (length ids)) None)) is ∙ kept (look q))
+
+or_none : (o : Option ℕ) → option_or o None ≡ o
+or_none None = refl
+or_none (Some n) = refl
+
 module _ (nodes : List Node) (n : ℕ) (d : Node) (within : n < length nodes) (before : ℤ → Option ℕ)
     (known : (q : ℤ) → before q ≡ number_of_id (take n (ids_of nodes)) q) where
   repeats_here : repeats_id (ids_of nodes) n ≡ is_some (before (id_of (get_or nodes n d)))
   repeats_here = ap (λ (id : ℤ). is_some (number_of_id (take n (ids_of nodes)) id)) (id_at nodes n d (pos 0) within) ∙ ap is_some (sym (known (id_of (get_or nodes n d))))
 
-  -- the first node whose id an earlier one has
-  pub repeated_here : find (repeats_id (ids_of nodes)) (range_with_len 0 n) ≡ None → is_some (before (id_of (get_or nodes n d))) ≡ true →
-      option_map (λ n. RepeatedId n) (first_repeated (ids_of nodes)) ≡ Some (RepeatedId n)
-  repeated_here none seen =
-      ap (option_map (λ n. RepeatedId n))
-      (found_at (repeats_id (ids_of nodes)) 0 n (length (ids_of nodes)) none (ap (repeats_id (ids_of nodes)) (zero-add n) ∙ repeats_here ∙ seen)
-      (subst (λ l. n < l) (sym (length-map nodes id_of)) within) ∙ ap Some (zero-add n))
+  -- the first node with the id of an earlier one, with one more node
+  abbrev repeated_next : Bool → Option ℕ
+  repeated_next seen = option_or (find (repeats_id (ids_of nodes)) (range_with_len 0 n)) (cond seen (Some n) None)
 
-  -- a node whose id no earlier one has
-  pub none_repeated_yet : find (repeats_id (ids_of nodes)) (range_with_len 0 n) ≡ None → is_some (before (id_of (get_or nodes n d))) ≡ false →
-      find (repeats_id (ids_of nodes)) (range_with_len 0 (n + 1)) ≡ None
-  none_repeated_yet none new =
-      subst (λ m. find (repeats_id (ids_of nodes)) (range_with_len 0 m) ≡ None) (sym (add-one n))
-      (none_more (repeats_id (ids_of nodes)) 0 n none (ap (repeats_id (ids_of nodes)) (zero-add n) ∙ repeats_here ∙ new))
+  repeated_more : find (repeats_id (ids_of nodes)) (range_with_len 0 (n + 1)) ≡ repeated_next (is_some (before (id_of (get_or nodes n d))))
+  repeated_more =
+      ap (λ (k : ℕ). find (repeats_id (ids_of nodes)) (range_with_len 0 k)) (add-one n)
+      ∙ ap (find (repeats_id (ids_of nodes))) (range_push 0 n)
+      ∙ find-append (repeats_id (ids_of nodes)) (range_with_len 0 n) ((0 + n) ∷ [])
+      ∙ ap (λ (k : ℕ). option_or (find (repeats_id (ids_of nodes)) (range_with_len 0 n)) (cond (repeats_id (ids_of nodes) k) (Some k) None)) (zero-add n)
+      ∙ ap repeated_next repeats_here
+
+  -- a node with the id of an earlier one
+  pub repeated_here : is_some (before (id_of (get_or nodes n d))) ≡ true → (so_far : Option ℕ) → so_far ≡ find (repeats_id (ids_of nodes)) (range_with_len 0 n) →
+      option_or so_far (Some n) ≡ find (repeats_id (ids_of nodes)) (range_with_len 0 (n + 1))
+  repeated_here seen so_far so = ap (λ (o : Option ℕ). option_or o (Some n)) so ∙ sym (repeated_more ∙ ap repeated_next seen)
+
+  -- a node with an id that no earlier one has
+  pub not_repeated : is_some (before (id_of (get_or nodes n d))) ≡ false → (so_far : Option ℕ) → so_far ≡ find (repeats_id (ids_of nodes)) (range_with_len 0 n) →
+      so_far ≡ find (repeats_id (ids_of nodes)) (range_with_len 0 (n + 1))
+  not_repeated new so_far so = so ∙ sym (or_none (find (repeats_id (ids_of nodes)) (range_with_len 0 n))) ∙ sym (repeated_more ∙ ap repeated_next new)
+
+  ids_next : (q : ℤ) → number_of_id (take n (ids_of nodes) ++ id_of (get_or nodes n d) ∷ []) q ≡ number_of_id (take (n + 1) (ids_of nodes)) q
+  ids_next q = ap (λ (ids : List ℤ). number_of_id ids q) (sym (ids_more nodes n d within))
+
+  -- the map stays, where an earlier node has the id
+  pub same_ids : is_some (before (id_of (get_or nodes n d))) ≡ true → (q : ℤ) → before q ≡ number_of_id (take (n + 1) (ids_of nodes)) q
+  same_ids seen q = look_same (take n (ids_of nodes)) (id_of (get_or nodes n d)) before known seen q ∙ ids_next q
 
   -- the map with one more id
   pub one_more_id : (after : ℤ → Option ℕ) → ((q : ℤ) → after q ≡ cond (int_eq (id_of (get_or nodes n d)) q) (Some n) (before q)) →
@@ -119,4 +127,4 @@ module _ (nodes : List Node) (n : ℕ) (d : Node) (within : n < length nodes) (b
       let long : length (take n (ids_of nodes)) ≡ n = length-take-le n (ids_of nodes) (omega (arith, length-map nodes id_of)) in
       look_more (take n (ids_of nodes)) (id_of (get_or nodes n d)) before after known
       (λ q. updated q ∙ ap (λ m. cond (int_eq (id_of (get_or nodes n d)) q) (Some m) (before q)) (sym long)) new q
-      ∙ ap (λ (ids : List ℤ). number_of_id ids q) (sym (ids_more nodes n d within))
+      ∙ ids_next q

@@ -1,14 +1,18 @@
-pub mod SizeLemmas
+pub mod ReadableLemmas
+pub mod LookupLemmas
 pub mod Steps
-pub mod ThousandthsLemmas
 pub mod RefusedLemmas
 pub mod IdLemmas
 pub mod SmallLemmas
 pub mod RouteLemmas
-pub mod FaultOrder
+pub mod Faultless
 pub mod EndLemmas
 pub mod GraphLemmas
 pub mod ReadingLemmas
+pub mod ReadingLimits
+pub mod AlikeLists
+pub mod AlikeGraphs
+pub mod AlikeReadings
 pub mod CoordinateSpots
 pub mod PointSpots
 pub mod ListSpots
@@ -16,3 +20,4 @@ pub mod CoordinateCases
 pub mod PathOrder
 pub mod InsideOrder
 pub mod SpotOrder
+pub mod Laws

@@ -6,9 +6,10 @@ use Rattle.std.specs.Option.{option_map_or}
 use Rattle.std.proofs.lemmas.List.Elements.{Contains-append_left, Contains-append_right, Contains-append_cases}
 use Rattle.gml_text.specs.declared.tree.Pair.{Pair}
 use Rattle.drawing_read.specs.declared.reading.Spot.{Spot}
-use Rattle.drawing_read.specs.declared.route.Span.{Span}
+use Rattle.drawing_read.specs.declared.spans.Span.{Span}
 use Rattle.drawing_read.specs.Lookups.{list_under, lists_under}
-use Rattle.drawing_read.specs.Spots.{node_spots, edge_spots, no_span, pair_spots, counted, graph_spots}
+use Rattle.drawing_read.specs.Spots.{node_spots, edge_spots, pair_spots, counted, graph_spots}
+use Rattle.drawing_read.specs.Spans.{no_span}
 use Rattle.drawing_read.specs.Coordinates.{IsListNumber}
 use Rattle.drawing_read.proofs.CoordinateSpots.{none_there}
 

@@ -5,9 +5,10 @@ use Rattle.std.specs.Option.{option_map_or}
 use Rattle.std.proofs.lemmas.List.Elements.{Contains-append_left, Contains-append_right, Contains-append_cases}
 use Rattle.gml_text.specs.declared.tree.Pair.{Pair}
 use Rattle.drawing_read.specs.declared.reading.Spot.{Spot}
-use Rattle.drawing_read.specs.declared.route.Span.{Span}
+use Rattle.drawing_read.specs.declared.spans.Span.{Span}
 use Rattle.drawing_read.specs.Lookups.{has_key, list_in, list_under}
-use Rattle.drawing_read.specs.Spots.{coordinate_spots, point_vertex, point_spots}
+use Rattle.drawing_read.specs.Spots.{coordinate_spots, point_spots}
+use Rattle.drawing_read.specs.Spans.{point_vertex}
 use Rattle.drawing_read.specs.Coordinates.{IsPointNumber}
 use Rattle.drawing_read.proofs.CoordinateSpots.{none_there}
 

@@ -1,41 +1,27 @@
--- A tree has at most one reading, and none beside a fault.
-use native.Mathlib.Nat.{ℕ_set}
-use native.Mathlib.Bridge.{le_prop}
-use Rattle.std.proofs.Common.{◌≡◌, ℕ, List, [], ◌∷◌, get_or, Option, None, Some, Result, Ok, Err, IfOk, is_some, unwrap_or, sym, ap, ◌∙◌, subst}
+-- A tree has exactly one reading or exactly one first fault.
+use Rattle.std.proofs.Common.{◌≡◌, ℕ, List, [], ◌∷◌, length, inl, inr, ◌⊎◌, Option, None, Some, Result, Ok, Err, IfOk, unwrap_or, refl, sym, ap, ◌∙◌, subst}
 use Rattle.std.specs.Prelude.{codes}
-use Rattle.std.specs.List.{cons_option, position}
-use Rattle.compact_types.specs.Refusals.{Gives, IfFault}
+use Rattle.std.specs.List.{position}
+use Rattle.std.proofs.lemmas.Option.{same_Some}
+use Rattle.compact_types.specs.Refusals.{HasOneAnswer, IfFault}
 use Rattle.compact_types.specs.declared.refusal.Refusal.{Refusal}
 use Rattle.compact_types.specs.declared.refusal.Refusal.TheVariants.{Fault, NoMemory}
-use Rattle.compact_types.specs.Lookups.{EndsAreVertices}
-use Rattle.compact_types.specs.declared.plan.Piece.{Piece}
-use Rattle.compact_types.specs.declared.plan.Plan.{Plan}
+use Rattle.compact_types.proofs.Laws.{plan_of, same_plan}
 use Rattle.gml_text.specs.declared.tree.Tree.{Tree, out-Tree}
 use Rattle.gml_text.specs.declared.tree.Pair.{Pair}
 use Rattle.drawing_read.specs.declared.fault.DrawFault.{DrawFault}
 use Rattle.drawing_read.specs.declared.reading.Reading.{Reading}
-use Rattle.drawing_read.specs.Lookups.{lists_under}
-use Rattle.drawing_read.specs.Passes.{IsOnlyGraph}
-use Rattle.drawing_read.proofs.GraphLemmas.{graph_under}
-use Rattle.drawing_read.specs.WrittenGraphs.{graph_of}
-use Rattle.drawing_read.specs.DrawFaults.{graph_fault, graphs_of, fault_of, FirstDrawFault}
+use Rattle.drawing_read.specs.declared.fault.DrawFault.TheVariants.{NoGraph, TwoGraphs}
+use Rattle.drawing_read.specs.Spans.{points_in, spans_in, pieces_in}
+use Rattle.drawing_read.specs.Spots.{graph_spots}
+use Rattle.drawing_read.specs.Written.{graph_of}
+use Rattle.drawing_read.specs.Faults.{graph_fault, graphs_of, fault_of, FirstDrawFault}
 use Rattle.drawing_read.specs.Readings.{IsGraphReading, IfOne, IsReading, graph_place}
-
-ends_prop : (vertices : ℕ) (pieces : List Piece) → IsProp (EndsAreVertices vertices pieces)
-ends_prop vertices pieces = hlevel (le_prop, ℕ_set)
-
-abbrev plan_of : (vertices : ℕ) (pieces : List Piece) → EndsAreVertices vertices pieces → Plan
-plan_of vertices pieces ends = record { vertices = vertices; pieces = pieces; ends = ends }
-
-same_by : (v w : ℕ) (ps qs : List Piece) → v ≡ w → ps ≡ qs → (e : EndsAreVertices v ps) (f : EndsAreVertices w qs) → plan_of v ps e ≡ plan_of w qs f
-same_by v w ps qs vertices pieces e f =
-    subst (λ (w : ℕ). (f : EndsAreVertices w qs) → plan_of v ps e ≡ plan_of w qs f) vertices
-    (subst (λ (qs : List Piece). (f : EndsAreVertices v qs) → plan_of v ps e ≡ plan_of v qs f) pieces
-    (λ f. ap (plan_of v ps) (ends_prop v ps e f))) f
-
--- two plans with the same vertices and pieces are the same
-pub same_plan : (p q : Plan) → p.vertices ≡ q.vertices → p.pieces ≡ q.pieces → p ≡ q
-same_plan p q vertices pieces = same_by p.vertices q.vertices p.pieces q.pieces vertices pieces p.ends q.ends
+use Rattle.drawing_read.specs.Lookups.{lists_under}
+use Rattle.drawing_read.specs.inner.Passes.{IsOnlyGraph}
+use Rattle.drawing_read.proofs.GraphLemmas.{is_graph}
+use Rattle.drawing_read.proofs.EndLemmas.{pieces_join_vertices}
+use Rattle.drawing_read.proofs.Faultless.{has_no_fault}
 
 same_reading : (r s : Reading) → r.plan ≡ s.plan → r.places.xy ≡ s.places.xy → r.spots ≡ s.spots → r ≡ s
 same_reading r s plan places spots = λ i. record { plan = plan i; places = record { xy = places i }; spots = spots i }
@@ -62,40 +48,76 @@ only_one tree r s a b = one_of (graph_place tree) (graphs_of tree) r s a b
 pub not_both : (tree : Tree) (r : Reading) (fault : DrawFault) → IsReading tree r → FirstDrawFault tree fault → ⊥
 not_both tree r fault a is = no_fault_of (graph_place tree) (graphs_of tree) r fault a is
 
-module _ (tree : Tree) where
-  pub gives_reading : (r : Result Reading (Refusal DrawFault)) → IfOk r (λ reading. IsReading tree reading) → IfFault r (λ fault. FirstDrawFault tree fault) →
-      (reading : Reading) → IsReading tree reading → Gives r (Ok reading)
-  gives_reading (Ok given) is fault reading a = ap Ok (only_one tree reading given a is)
-  gives_reading (Err (Fault given)) is fault reading a = absurd (not_both tree reading given a fault)
-  gives_reading (Err NoMemory) is fault reading a = tt
+-- a graph without a fault has a reading
+graph_has_reading : (at : ℕ) (pairs : List Pair) → graph_fault (graph_of pairs) ≡ None → (reading : Reading) × IsGraphReading at pairs reading
+graph_has_reading at pairs none =
+    let graph = graph_of pairs in
+    let ends = pieces_join_vertices graph (has_no_fault graph none).some_node in (
+      record {
+        plan = plan_of (length (points_in graph)) (pieces_in graph) ends;
+        places = record { xy = points_in graph };
+        spots = graph_spots (at ∷ []) (spans_in graph) 0 0 0 pairs;
+      },
+      record { faultless = none; vertices = refl; pieces = refl; places = refl; spots = refl },
+    )
 
-  pub gives_fault : (r : Result Reading (Refusal DrawFault)) → IfOk r (λ reading. IsReading tree reading) → IfFault r (λ fault. FirstDrawFault tree fault) →
-      (fault : DrawFault) → FirstDrawFault tree fault → Gives r (Err fault)
-  gives_fault (Ok given) is first fault a = absurd (not_both tree given fault is a)
-  gives_fault (Err (Fault given)) is first fault a = ap Err (cc)
-  gives_fault (Err NoMemory) is first fault a = tt
+-- a graph has a reading or a first fault
+graph_some : (at : ℕ) (pairs : List Pair) →
+    ((reading : Reading) × IsGraphReading at pairs reading) ⊎ ((fault : DrawFault) × (graph_fault (graph_of pairs) ≡ Some fault))
+graph_some at pairs = by (graph_fault (graph_of pairs)) refl
+  where
+    by : (o : Option DrawFault) → graph_fault (graph_of pairs) ≡ o →
+        ((reading : Reading) × IsGraphReading at pairs reading) ⊎ ((fault : DrawFault) × (graph_fault (graph_of pairs) ≡ Some fault))
+    by None is = inl (graph_has_reading at pairs is)
+    by (Some fault) is = inr (fault, is)
 
--- the reading of the one graph is that of the tree
-pub reading_of_tree : (tree : Tree) (at : ℕ) (pairs : List Pair) → graphs_of tree ≡ pairs ∷ [] → graph_place tree ≡ at → (r : Reading) → IsGraphReading at pairs r → IsReading tree r
-reading_of_tree tree at pairs one place r is =
-    subst (λ (graphs : List (List Pair)). IfOne graphs (λ pairs. IsGraphReading (graph_place tree) pairs r)) (sym one)
-    (subst (λ (at : ℕ). IsGraphReading at pairs r) (sym place) is)
+some_of : (at : ℕ) (graphs : List (List Pair)) →
+    ((reading : Reading) × IfOne graphs (λ pairs. IsGraphReading at pairs reading)) ⊎ ((fault : DrawFault) × (fault_of graphs ≡ Some fault))
+some_of at [] = inr (NoGraph, refl)
+some_of at (pairs ∷ []) = graph_some at pairs
+some_of at (pairs ∷ other ∷ more) = inr (TwoGraphs, refl)
 
--- and its first fault too
-pub fault_of_tree : (tree : Tree) (pairs : List Pair) → graphs_of tree ≡ pairs ∷ [] → (fault : DrawFault) → graph_fault (graph_of pairs) ≡ Some fault → FirstDrawFault tree fault
-fault_of_tree tree pairs one fault is = ap fault_of one ∙ is
+-- a tree has exactly one reading or exactly one first fault
+pub one_answer : (tree : Tree) → HasOneAnswer (IsReading tree) (FirstDrawFault tree)
+one_answer tree = record {
+  some = some_of (graph_place tree) (graphs_of tree);
+  one_value = only_one tree;
+  one_fault = λ a b first second. same_Some a b (sym first ∙ second);
+  not_both = not_both tree;
+}
 
-pub if_ok : {T E : Type 0} (r : Result T E) (P Q : T → Type 0) → ((value : T) → P value → Q value) → IfOk r P → IfOk r Q
-if_ok (Ok value) P Q all holds = all value holds
-if_ok (Err e) P Q all holds = holds
+-- what a graph decides, a tree decides whose only graph it is
+module _ (tree : Tree) (pairs : List Pair) (at : ℕ) (graph : List Pair) (whole : pairs ≡ (out-Tree tree).pairs) (only : IsOnlyGraph pairs at graph) where
+  one_there : graphs_of tree ≡ graph ∷ []
+  one_there = ap (lists_under (codes "graph")) (sym whole) ∙ only.only
 
--- the list of the only graph
-pub only_list : (tree : Tree) (pairs : List Pair) (at : ℕ) (pair : Pair) (list result : List Pair) → pairs ≡ (out-Tree tree).pairs → IsOnlyGraph pairs at →
-    pair ≡ get_or pairs at pair → Some list ≡ graph_under pair → result ≡ list → graphs_of tree ≡ result ∷ []
-only_list tree pairs at pair list result whole only here is same =
-    ap (lists_under (codes "graph")) (sym whole) ∙ only.only pair ∙ ap (λ (pair : Pair). cons_option (graph_under pair) []) (sym here)
-    ∙ ap (λ (o : Option (List Pair)). cons_option o []) (sym is) ∙ ap (λ (list : List Pair). list ∷ []) (sym same)
+  place_there : graph_place tree ≡ at
+  place_there =
+      ap (λ (pairs : List Pair). unwrap_or (position is_graph pairs) 0) (sym whole) ∙ ap (λ (o : Option ℕ). unwrap_or o 0) only.place
 
-pub only_place : (tree : Tree) (pairs : List Pair) (at : ℕ) → pairs ≡ (out-Tree tree).pairs → IsOnlyGraph pairs at → graph_place tree ≡ at
-only_place tree pairs at whole only =
-    ap (λ (pairs : List Pair). unwrap_or (position (λ pair. is_some (graph_under pair)) pairs) 0) (sym whole) ∙ ap (λ (o : Option ℕ). unwrap_or o 0) only.place
+  of_tree : (reading : Reading) → IsGraphReading at graph reading → IsReading tree reading
+  of_tree reading is =
+      subst (λ (graphs : List (List Pair)). IfOne graphs (λ pairs. IsGraphReading (graph_place tree) pairs reading)) (sym one_there)
+      (subst (λ (at : ℕ). IsGraphReading at graph reading) (sym place_there) is)
+
+  -- the reading of the only graph
+  pub reading_of_only : (r : Result Reading (Refusal DrawFault)) → IfOk r (λ reading. IsGraphReading at graph reading) → IfOk r (IsReading tree)
+  reading_of_only (Ok reading) is = of_tree reading is
+  reading_of_only (Err refusal) is = is
+
+  -- its first fault
+  pub fault_of_only : (r : Result Reading (Refusal DrawFault)) → IfFault r (λ fault. graph_fault (graph_of graph) ≡ Some fault) → IfFault r (FirstDrawFault tree)
+  fault_of_only (Ok reading) is = is
+  fault_of_only (Err (Fault fault)) is = ap fault_of one_there ∙ is
+  fault_of_only (Err NoMemory) is = is
+
+-- the first fault of a tree without a graph or with more than one
+pub fault_of_graphs : (tree : Tree) (pairs : List Pair) (fault : DrawFault) → pairs ≡ (out-Tree tree).pairs →
+    fault_of (lists_under (codes "graph") pairs) ≡ Some fault → FirstDrawFault tree fault
+fault_of_graphs tree pairs fault whole is = ap (λ (pairs : List Pair). fault_of (lists_under (codes "graph") pairs)) (sym whole) ∙ is
+
+-- what holds of every reading holds of an answer
+pub if_reading : (tree : Tree) (r : Result Reading (Refusal DrawFault)) (P : Reading → Type 0) → ((reading : Reading) → IsReading tree reading → P reading) →
+    IfOk r (IsReading tree) → IfOk r P
+if_reading tree (Ok reading) P all is = all reading is
+if_reading tree (Err refusal) P all is = is

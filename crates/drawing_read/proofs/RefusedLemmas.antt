@@ -2,13 +2,13 @@
 use Rattle.std.proofs.Common.{◌≡◌, List, [], ◌∷◌, Option, None, Some, fold, refl, sym, ap, ◌∙◌}
 use Rattle.std.specs.List.{flat_map, filter_map, cons_option, reduce}
 use Rattle.std.proofs.lemmas.List.Sums.{fold-append}
-use Rattle.drawing_read.specs.declared.written.Number.{Number}
-use Rattle.drawing_read.specs.declared.written.RefusedNumber.{RefusedNumber}
+use Rattle.drawing_read.specs.declared.numerals.Number.{Number}
+use Rattle.drawing_read.specs.declared.refused.RefusedNumber.{RefusedNumber}
 use Rattle.drawing_read.specs.declared.written.Node.{Node}
 use Rattle.drawing_read.specs.declared.written.Edge.{Edge}
 use Rattle.drawing_read.specs.declared.written.Graph.{Graph}
-use Rattle.drawing_read.specs.DrawFaults.{both_numbers, refused_in, earlier, first_refused, numbers_of}
-use Rattle.drawing_read.specs.Passes.{first_of, with_number, with_numbers}
+use Rattle.drawing_read.specs.Faults.{both_numbers, refused_in, earlier, first_refused, numbers_of}
+use Rattle.drawing_read.specs.inner.Passes.{first_of, with_number, with_numbers}
 
 fold-flat_map : {A B C : Type 0} (s : B → C → B) (f : A → List C) (b : B) (xs : List A) → fold (λ b x. fold s b (f x)) b xs ≡ fold s b (flat_map f xs)
 fold-flat_map s f b [] = refl

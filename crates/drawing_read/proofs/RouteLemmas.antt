@@ -9,11 +9,13 @@ use Rattle.compact_types.specs.Lookups.{place}
 use Rattle.drawing_read.specs.declared.written.Node.{Node}
 use Rattle.drawing_read.specs.declared.written.Edge.{Edge}
 use Rattle.drawing_read.specs.declared.written.Graph.{Graph}
-use Rattle.drawing_read.specs.declared.route.Route.{Route}
-use Rattle.drawing_read.specs.declared.route.Span.{Span}
-use Rattle.drawing_read.specs.Sizes.{most_pairs}
-use Rattle.drawing_read.specs.Passes.{point_count, IsSmall}
-use Rattle.drawing_read.specs.Routes.{begins_at, ends_at, after_first_at, before_last_at, bends_of, vertex_points, spans_from, spans_of, chain, pieces_of, point_of, route_of, routes_by, node_points, points_by, spans_by}
+use Rattle.drawing_read.specs.declared.routes.Route.{Route}
+use Rattle.drawing_read.specs.declared.spans.Span.{Span}
+use Rattle.drawing_read.specs.inner.Readable.{most_pairs}
+use Rattle.drawing_read.specs.inner.Passes.{point_count, IsSmall}
+use Rattle.drawing_read.specs.Spans.{begins_at, ends_at, after_first_at, before_last_at, bends_of, spans_from, chain, pieces_of, points_in, spans_in, pieces_in}
+use Rattle.drawing_read.specs.Ids.{number_of_id, ids_of}
+use Rattle.drawing_read.specs.Routes.{point_of, route_of, routes_by, node_points}
 
 after_below : (here : Point) (points : List Point) → length (after_first_at here points) ≤ length points
 after_below here points = by (begins_at here points)
@@ -54,8 +56,9 @@ few_bends nodes look (edge ∷ edges) =
     )
 
 -- the vertices are few
-pub few_points : (look : ℤ → Option ℕ) (graph : Graph) → IsSmall graph → length (points_by look graph) ≤ most_pairs
-few_points look graph small =
+pub few_points : (graph : Graph) → IsSmall graph → length (points_in graph) ≤ most_pairs
+few_points graph small =
+    let look = number_of_id (ids_of graph.nodes) in
     omega (
       arith,
       length-append (node_points graph.nodes) (all_bends (node_points graph.nodes) (routes_by look graph)),
@@ -81,15 +84,17 @@ pieces_from nodes first (route ∷ routes) =
       pieces_from nodes (first + length (bends_of nodes route)) routes,
     )
 
--- the pieces can be counted, where the vertices are within their most
-pub few_pieces : (look : ℤ → Option ℕ) (graph : Graph) → IsSmall graph → length (points_by look graph) ≤ 1000 → length (pieces_of (spans_by look graph)) ≤ most_pairs + 1000
-few_pieces look graph small few =
+-- the pieces are few
+pub few_pieces : (graph : Graph) → IsSmall graph → length (pieces_in graph) ≤ most_pairs + most_pairs
+few_pieces graph small =
+    let look = number_of_id (ids_of graph.nodes) in
     omega (
       arith,
       pieces_from (node_points graph.nodes) (length (node_points graph.nodes)) (routes_by look graph),
-      length-append (node_points graph.nodes) (all_bends (node_points graph.nodes) (routes_by look graph)),
+      few_bends (node_points graph.nodes) look graph.edges,
       length-map graph.edges (route_of look),
       small.edges,
+      small.vertices,
     )
 
 -- the numbers of the bends end below the number of vertices
@@ -100,8 +105,10 @@ spans_end nodes first most (route ∷ routes) within zero d below = omega (arith
 spans_end nodes first most (route ∷ routes) within (suc k) d below =
     spans_end nodes (first + length (bends_of nodes route)) most routes (omega (arith, bends_cons nodes route routes)) k d (omega arith)
 
-pub spans_fit : (nodes : List Point) (routes : List Route) → length (vertex_points nodes routes) ≤ 1000 →
-    All (λ (span : Span). span.first + span.bends < 2 ^ 32) (spans_of nodes routes)
-spans_fit nodes routes few k d below =
-    let e = spans_end nodes (length nodes) 1000 routes (omega (arith, length-append nodes (all_bends nodes routes))) k d below in
-    omega (arith, e)
+-- they can be counted
+pub spans_fit : (graph : Graph) → IsSmall graph → All (λ (span : Span). span.first + span.bends < 2 ^ 32) (spans_in graph)
+spans_fit graph small k d below =
+    let nodes = node_points graph.nodes in
+    let routes = routes_by (number_of_id (ids_of graph.nodes)) graph in
+    let e = spans_end nodes (length nodes) (length (points_in graph)) routes (omega (arith, length-append nodes (all_bends nodes routes))) k d below in
+    omega (arith, e, few_points graph small)

@@ -10,37 +10,38 @@ use Rattle.gml_text.specs.declared.tree.Value.{Value}
 use Rattle.gml_text.specs.declared.tree.Value.TheVariants.{Whole, Real, Text, Inner}
 use Rattle.drawing_read.specs.declared.written.Edge.{Edge}
 use Rattle.drawing_read.specs.Lookups.{has_key, list_in, first_under, first_list}
-use Rattle.drawing_read.specs.WrittenGraphs.{node_in, edge_of, edge_in, point_in, line_of, graph_of}
-use Rattle.drawing_read.specs.Sizes.{weight_of, AreReadable}
-use Rattle.drawing_read.specs.Passes.{point_count, IsSmall}
-use Rattle.drawing_read.proofs.SizeLemmas.{pair_weight, tree_count, inner_count, pairs_inside}
+use Rattle.drawing_read.specs.Written.{node_in, edge_of, edge_in, point_in, line_of, graph_of}
+use Rattle.gml_text.specs.PairCounts.{count_in_value, count_in_pair}
+use Rattle.gml_text.proofs.Laws.{pair_with_value, tree_count, value_count}
+use Rattle.drawing_read.specs.inner.Readable.{AreReadable}
+use Rattle.drawing_read.specs.inner.Passes.{point_count, IsSmall}
 
 abbrev weight : List Pair → ℕ
-weight pairs = sum_by weight_of pairs
+weight pairs = sum_by count_in_pair pairs
 
-weight_cons : (pair : Pair) (pairs : List Pair) → weight (pair ∷ pairs) ≡ pairs_inside pair.value + 1 + weight pairs
-weight_cons pair pairs = sum_by-cons weight_of pair pairs ∙ ap (λ n. n + weight pairs) (pair_weight pair)
+weight_cons : (pair : Pair) (pairs : List Pair) → weight (pair ∷ pairs) ≡ count_in_value pair.value + 1 + weight pairs
+weight_cons pair pairs = sum_by-cons count_in_pair pair pairs ∙ ap (λ n. n + weight pairs) (pair_with_value pair)
 
 -- the list that a value is weighs as much as the value
-value_below : (value : Value) (list : List Pair) → list_in value ≡ Some list → weight list ≤ pairs_inside value
+value_below : (value : Value) (list : List Pair) → list_in value ≡ Some list → weight list ≤ count_in_value value
 value_below (Whole word) list is = absurd (cc)
 value_below (Real word) list is = absurd (cc)
 value_below (Text inside) list is = absurd (cc)
 value_below (Inner tree) list is =
     let same : (out-Tree tree).pairs ≡ list = cc in
     let e : weight (out-Tree tree).pairs ≡ weight list = ap weight same in
-    omega (arith, tree_count tree, inner_count tree)
+    omega (arith, tree_count tree, value_count (Inner tree))
 
-found_next : (pair x : Pair) (pairs : List Pair) (b : Bool) (o : Option Pair) → (o ≡ Some x → weight_of x ≤ weight pairs) →
-    cond b (Some pair) o ≡ Some x → weight_of x ≤ weight (pair ∷ pairs)
+found_next : (pair x : Pair) (pairs : List Pair) (b : Bool) (o : Option Pair) → (o ≡ Some x → count_in_pair x ≤ weight pairs) →
+    cond b (Some pair) o ≡ Some x → count_in_pair x ≤ weight (pair ∷ pairs)
 found_next pair x pairs true o rest is =
     let same : pair ≡ x = cc in
-    let e : weight_of pair ≡ weight_of x = ap weight_of same in
-    omega (arith, sum_by-cons weight_of pair pairs)
-found_next pair x pairs false o rest is = omega (arith, sum_by-cons weight_of pair pairs, rest is)
+    let e : count_in_pair pair ≡ count_in_pair x = ap count_in_pair same in
+    omega (arith, sum_by-cons count_in_pair pair pairs)
+found_next pair x pairs false o rest is = omega (arith, sum_by-cons count_in_pair pair pairs, rest is)
 
 -- a pair that is found weighs no more than the whole
-found_below : (p : Pair → Bool) (pairs : List Pair) (x : Pair) → find p pairs ≡ Some x → weight_of x ≤ weight pairs
+found_below : (p : Pair → Bool) (pairs : List Pair) (x : Pair) → find p pairs ≡ Some x → count_in_pair x ≤ weight pairs
 found_below p [] x is = absurd (cc)
 found_below p (pair ∷ pairs) x is = found_next pair x pairs (p pair) (find p pairs) (found_below p pairs x) is
 
@@ -50,7 +51,7 @@ first_below key pairs list is = by (first_under key pairs) refl is
   where
     by : (o : Option Pair) → first_under key pairs ≡ o → option_and_then (λ (pair : Pair). list_in pair.value) o ≡ Some list → weight list ≤ weight pairs
     by None found is = absurd (cc)
-    by (Some pair) found is = omega (arith, found_below (has_key key) pairs pair found, pair_weight pair, value_below pair.value list is)
+    by (Some pair) found is = omega (arith, found_below (has_key key) pairs pair found, pair_with_value pair, value_below pair.value list is)
 
 inside_below : (key : List ℕ) (pairs : List Pair) (o : Option (List Pair)) → first_list key pairs ≡ o → weight (unwrap_or o []) ≤ weight pairs
 inside_below key pairs None is = omega arith
@@ -77,24 +78,24 @@ edge_points : (pairs : List Pair) → length (edge_of pairs).points ≤ weight p
 edge_points pairs = omega (arith, kept_below point_in (line_of pairs), line_below pairs)
 
 -- an edge has no more points than its pair's value has pairs
-edge_below : (pair : Pair) (edge : Edge) → edge_in pair ≡ Some edge → length edge.points ≤ pairs_inside pair.value
+edge_below : (pair : Pair) (edge : Edge) → edge_in pair ≡ Some edge → length edge.points ≤ count_in_value pair.value
 edge_below pair edge is = by (has_key (codes "edge") pair) (list_in pair.value) refl is
   where
-    of_list : (o : Option (List Pair)) → list_in pair.value ≡ o → option_map edge_of o ≡ Some edge → length edge.points ≤ pairs_inside pair.value
+    of_list : (o : Option (List Pair)) → list_in pair.value ≡ o → option_map edge_of o ≡ Some edge → length edge.points ≤ count_in_value pair.value
     of_list None found is = absurd (cc)
     of_list (Some list) found is =
         let same : edge_of list ≡ edge = cc in
         let e : length (edge_of list).points ≡ length edge.points = ap (λ (edge : Edge). length edge.points) same in
         omega (arith, edge_points list, value_below pair.value list found)
 
-    by : (b : Bool) (o : Option (List Pair)) → list_in pair.value ≡ o → option_map edge_of (cond b o None) ≡ Some edge → length edge.points ≤ pairs_inside pair.value
+    by : (b : Bool) (o : Option (List Pair)) → list_in pair.value ≡ o → option_map edge_of (cond b o None) ≡ Some edge → length edge.points ≤ count_in_value pair.value
     by true o found is = of_list o found is
     by false o found is = absurd (cc)
 
 abbrev pub size_of : Edge → ℕ
 size_of edge = length edge.points
 
-points_next : (pair : Pair) (o : Option Edge) (edges : List Edge) → edge_in pair ≡ o → point_count (cons_option o edges) ≤ pairs_inside pair.value + point_count edges
+points_next : (pair : Pair) (o : Option Edge) (edges : List Edge) → edge_in pair ≡ o → point_count (cons_option o edges) ≤ count_in_value pair.value + point_count edges
 points_next pair None edges is = omega arith
 points_next pair (Some edge) edges is = omega (arith, sum_by-cons size_of edge edges, edge_below pair edge is)
 

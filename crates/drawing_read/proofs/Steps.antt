@@ -1,6 +1,6 @@
 -- One more step of a loop over a list.
 use Rattle.compact_types.specs.declared.plan.Piece.{Piece}
-use Rattle.drawing_read.specs.Routes.{chain}
+use Rattle.drawing_read.specs.Spans.{chain}
 use Rattle.std.proofs.Common.{◌≡◌, ℕ, suc, ◌+◌, ◌-◌, ◌<◌, arith, List, [], ◌∷◌, ◌++◌, length, take, get_or, Option, None, Some, sym, ap, ◌∙◌, append-nil, append_assoc, map}
 use Rattle.std.proofs.lemmas.List.{take_more, map_push, get_or_default}
 use Rattle.std.proofs.lemmas.List.Elements.{filter_map-append}

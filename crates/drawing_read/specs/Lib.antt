@@ -1,10 +1,11 @@
-pub mod Sizes
 pub mod Lookups
-pub mod Thousandths
-pub mod WrittenGraphs
-pub mod DrawFaults
+pub mod Numerals
+pub mod Written
+pub mod Ids
 pub mod Routes
+pub mod Spans
+pub mod Faults
 pub mod Spots
-pub mod Coordinates
 pub mod Readings
-pub mod Passes
+pub mod Coordinates
+pub mod inner

@@ -1,5 +1,6 @@
 -- Pairs by their keys.
-use Rattle.std.specs.Prelude.{ℕ, Bool, List, Option, None, Some, if◌then◌else◌, option_and_then}
+use Rattle.std.specs.Prelude.{◌≡◌, ℕ, Bool, List, Option, None, Some}
+use Rattle.std.specs.Prelude.{if◌then◌else◌, option_and_then}
 use Rattle.std.specs.List.{find, filter_map, position}
 use Rattle.std.specs.Str.{bytes_eq}
 use Rattle.gml_text.specs.declared.tree.Tree.{out-Tree}
@@ -37,3 +38,8 @@ first_list key pairs = option_and_then (λ pair. list_in pair.value) (first_unde
 -- the place of the pair that counts
 abbrev pub place_under : List ℕ → List Pair → Option ℕ
 place_under key pairs = position (has_key key) pairs
+
+-- the list that counts under this key, and its place
+pub record IsListAt (key : List ℕ) (pairs : List Pair) (at : ℕ) (list : List Pair) : Type 0 where
+  pub place : place_under key pairs ≡ Some at
+  pub there : first_list key pairs ≡ Some list

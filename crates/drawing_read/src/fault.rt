@@ -1,13 +1,18 @@
-use gml_text::number::NumberFault;
+//! Why a tree is no drawing.
 
-/// Why a tree is no drawing. Nodes, edges and points are numbered from 0, the points within their edge.
+use gml_text::NumberFault;
+
+/// Why a tree is no drawing. Nodes, edges and points are numbered from 0, the points within their
+/// edge.
 #[derive(Clone, Copy, Debug, PartialEq, Eq)]
 pub enum DrawFault {
     /// No `graph` at the top is a list.
     NoGraph,
+    /// More than one is.
     TwoGraphs,
     /// The graph has no node.
     Empty,
+    /// The node has no `id`.
     NoId(u32),
     /// The node's id is no whole numeral within `i64`.
     BadId(u32),
@@ -23,8 +28,8 @@ pub enum DrawFault {
     UnknownEnd(u32),
     /// The point is no list with numerals x and y.
     BadPoint { edge: u32, point: u32 },
-    /// So many vertices, above 1,000.
+    /// So many vertices, above `MOST_VERTICES`.
     TooManyVertices(u32),
-    /// So many pieces, above 4,000.
+    /// So many pieces, above `MOST_PIECES_READ`.
     TooManyPieces(u32),
 }

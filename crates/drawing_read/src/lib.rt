@@ -1,24 +1,33 @@
-//! The reading of a drawing from a GML tree: the graph cut into straight pieces, the places of its vertices in
-//! thousandths, and where each coordinate stands in the tree.
+//! The reading of a drawing from a GML tree: the graph cut into straight pieces, the places of its
+//! vertices in thousandths, and where each coordinate stands in the tree.
 //!
-//! The layer above relies on `IsReading` and `FirstDrawFault`: every tree is a drawing with one reading, or has one
-//! first fault.
+//! The layer above relies on `IsReading` and `FirstDrawFault`: every tree is a drawing with exactly
+//! one reading, or has exactly one first fault, and `read_drawing` answers it. Every reading is
+//! within the limits of a drawing, its spots are the coordinates of its graph in document order,
+//! and trees that differ at most in their offsets have the same reading.
 #![tactic(auto)]
 
-mod bends;
-mod edges;
-pub mod fault;
+mod fault;
 mod faults;
-mod graphs;
+mod graph;
 mod ids;
-pub mod law;
-mod lookup;
-mod nodes;
-mod numbers;
-mod points;
-pub mod read;
-pub mod reading;
-pub mod route;
+mod limits;
+mod lookups;
+mod numerals;
+mod promises;
+mod read;
+mod reading;
+mod refused;
+mod routes;
+mod spans;
 mod spots;
-mod vertices;
-pub mod written;
+mod written;
+
+pub use fault::DrawFault;
+pub use limits::MOST_PIECES_READ;
+pub use promises::{
+    alike_trees_have_one_reading, readings_are_within_limits, spots_are_the_coordinates,
+    trees_have_one_answer,
+};
+pub use read::read_drawing;
+pub use reading::{Reading, Spot};

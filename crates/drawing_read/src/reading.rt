@@ -1,6 +1,15 @@
-use compact_types::items::Items;
-use compact_types::places::{Axis, Places};
-use compact_types::plan::Plan;
+//! What is read: a drawing, and where its coordinates stand.
+
+use compact_types::{Axis, Items, Places, Plan};
+
+/// A drawing that was read: its graph in straight pieces, the places of its vertices in
+/// thousandths, and where its coordinates stand, in document order.
+#[derive(Debug, Drop)]
+pub struct Reading {
+    pub plan: Plan,
+    pub places: Places,
+    pub spots: Items<Spot>,
+}
 
 /// Where a coordinate of a vertex stands in the tree.
 #[derive(Debug, Drop)]
@@ -9,13 +18,4 @@ pub struct Spot {
     pub path: Items<u32>,
     pub vertex: u32,
     pub axis: Axis,
-}
-
-/// A drawing that was read: its graph in straight pieces, the places of its vertices in thousandths, and where its
-/// coordinates stand, in document order.
-#[derive(Debug, Drop)]
-pub struct Reading {
-    pub plan: Plan,
-    pub places: Places,
-    pub spots: Items<Spot>,
 }

@@ -1,5 +1,5 @@
 use Rattle.std.proofs.Common.{◌≡◌, drop}
-use Rattle.drawing_read.specs.DrawFaults.{bad_point_from}
+use Rattle.drawing_read.specs.Faults.{bad_point_from}
 use Rattle.drawing_read.proofs.faults.bad_point.Given as goal
 
 abbrev pub invariant-loop-e : goal.invariant-loop-e

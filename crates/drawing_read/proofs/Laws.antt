@@ -1,0 +1,15 @@
+-- The laws of this crate: the one module of its proofs that other crates import.
+
+-- every tree has one reading or one first fault
+pub use Rattle.drawing_read.proofs.ReadingLemmas.{one_answer}
+-- readings are within the limits
+pub use Rattle.drawing_read.proofs.ReadingLimits.{reading_within_limits}
+-- alike trees have the same reading
+pub use Rattle.drawing_read.proofs.AlikeReadings.{reading_alike}
+-- a graph without a fault, kind by kind
+pub use Rattle.drawing_read.proofs.Faultless.{HasNoFault, has_no_fault, is_faultless}
+-- the pieces of a graph with a node join its vertices
+pub use Rattle.drawing_read.proofs.EndLemmas.{end_below, pieces_join_vertices}
+-- the spots of a graph are its coordinates, in document order
+pub use Rattle.drawing_read.proofs.CoordinateCases.{spot_is_coordinate, coordinate_is_spot}
+pub use Rattle.drawing_read.proofs.SpotOrder.{graph_in_order}

@@ -1,5 +1,0 @@
-use Rattle.drawing_read.proofs.SizeLemmas.{readable_list}
-use Rattle.drawing_read.proofs.lookup.list_of.Goals as goal
-
-pub returns-in-Inner-clause-readable : goal.returns-in-Inner-clause-readable
-returns-in-Inner-clause-readable c = readable_list c.args.pair.now c.in-Inner.tree c.in-Inner.is

@@ -1,7 +1,0 @@
-use Rattle.std.proofs.Common.{◌≡◌, take}
-use Rattle.std.specs.List.{filter_map}
-use Rattle.drawing_read.specs.WrittenGraphs.{node_in}
-use Rattle.drawing_read.proofs.nodes.nodes_of.Given as goal
-
-abbrev pub invariant-loop-pair : goal.invariant-loop-pair
-invariant-loop-pair l = l.nodes ≡ filter_map node_in (take l.pair-index l.pairs)

@@ -1,8 +1,0 @@
-use Rattle.std.proofs.Common.{ap, ◌∙◌}
-use Rattle.gml_text.specs.NumeralKinds.{is_numeral}
-use Rattle.drawing_read.proofs.SizeLemmas.{numeral_word}
-use Rattle.drawing_read.proofs.nodes.number_of.Goals as goal
-
-pub thousandths_of-requires : goal.thousandths_of-requires
-thousandths_of-requires c =
-    ap is_numeral c.as_slice.ensures ∙ numeral_word c.args.pair.now c.in-Whole.word c.in-Whole.is c.requires
