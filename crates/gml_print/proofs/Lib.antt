@@ -3,6 +3,7 @@ pub mod Printed
 pub mod ReadsBack
 pub mod Numerals
 pub mod PlaceNumbers
+pub mod Kept
 pub mod ListFacts
 pub mod MovedGraphs
 pub mod MovedEdges

@@ -5,11 +5,13 @@ use Rattle.std.specs.List.{range_with_len, flat_map}
 use Rattle.std.proofs.lemmas.List.{length-map, map-append, length-append}
 use Rattle.compact_types.specs.declared.places.Point.{Point}
 use Rattle.compact_types.specs.Lookups.{place}
-use Rattle.drawing_read.specs.declared.written.WholeNumber.{WholeNumber}
+use Rattle.drawing_read.specs.declared.numerals.WholeNumber.{WholeNumber}
 use Rattle.drawing_read.specs.declared.written.Edge.{Edge}
-use Rattle.drawing_read.specs.declared.route.Span.{Span}
-use Rattle.drawing_read.specs.Routes.{point_of, route_of, begins_at, ends_at, after_first_at, bends_of, points_at_source, span_of, spans_from, span_pieces, pieces_of, node_with}
-use Rattle.drawing_read.specs.Spots.{no_span}
+use Rattle.drawing_read.specs.declared.spans.Span.{Span}
+use Rattle.drawing_read.specs.Routes.{point_of, route_of}
+use Rattle.drawing_read.specs.Spans.{begins_at, ends_at, after_first_at, bends_of, points_at_source, span_of, spans_from, span_pieces, pieces_of}
+use Rattle.drawing_read.specs.Ids.{node_with}
+use Rattle.drawing_read.specs.Spans.{no_span}
 use Rattle.gml_print.proofs.ListFacts.{range_append, length_range}
 use Rattle.gml_print.proofs.MovedGraphs.{HavePoints, EdgesHavePoints, count, only_if, all_vertices, Apart, apart_parts, new_start, new_bends, moved_edge, moved_edges, moved_route_points, after_length, before_length}
 

@@ -1,23 +1,22 @@
 -- A graph without a fault has none after its vertices were moved.
-use Rattle.std.proofs.Common.{◌≡◌, ℕ, suc, ◌+◌, ◌<◌, ℤ, pos, Bool, List, [], ◌∷◌, ◌++◌, length, map, Option, None, Some, refl, sym, ap, ◌∙◌, nat_lt, ◌||◌}
-use Rattle.std.specs.Prelude.{unwrap_or, is_none, if◌then◌else◌}
+use Rattle.std.proofs.Common.{◌≡◌, ℕ, suc, ◌+◌, ◌<◌, ℤ, pos, Bool, List, [], ◌∷◌, ◌++◌, length, map, Option, None, Some, refl, sym, ap, ◌∙◌, ◌||◌}
+use Rattle.std.specs.Prelude.{unwrap_or, is_none}
 use Rattle.std.specs.List.{position, filter_map, flat_map}
-use Rattle.std.specs.Option.{option_map, option_or}
+use Rattle.std.specs.Option.{option_map}
 use Rattle.std.specs.Ordering.{int_eq}
 use Rattle.std.proofs.lemmas.List.Elements.{filter_map-append}
 use Rattle.std.proofs.lemmas.List.Quantifiers.{position-Some}
 use Rattle.compact_types.specs.declared.places.Point.{Point}
-use Rattle.drawing_read.specs.declared.written.Number.{Number}
-use Rattle.drawing_read.specs.declared.written.Numbers.{Numbers}
-use Rattle.drawing_read.specs.declared.written.WholeNumber.{WholeNumber}
+use Rattle.drawing_read.specs.declared.numerals.Number.{Number}
+use Rattle.drawing_read.specs.declared.numerals.Numbers.{Numbers}
+use Rattle.drawing_read.specs.declared.numerals.WholeNumber.{WholeNumber}
 use Rattle.drawing_read.specs.declared.written.Node.{Node}
 use Rattle.drawing_read.specs.declared.written.Edge.{Edge}
-use Rattle.drawing_read.specs.declared.fault.DrawFault.{DrawFault}
-use Rattle.drawing_read.specs.declared.fault.DrawFault.TheVariants.{Empty, NoId, BadId, NoEnd, UnknownEnd, BadPoint}
-use Rattle.drawing_read.specs.declared.route.Span.{Span}
-use Rattle.drawing_read.specs.Routes.{ids_of, number_of_id, node_with, fitting}
-use Rattle.drawing_read.specs.Spots.{point_vertex}
-use Rattle.drawing_read.specs.DrawFaults.{is_absent, is_unfit, is_no_numeral, id_fault, edge_fault, lacks_end, has_unknown_end, bad_point_from, both_numbers, refused_in}
+use Rattle.drawing_read.specs.declared.fault.DrawFault.TheVariants.{BadPoint}
+use Rattle.drawing_read.specs.declared.spans.Span.{Span}
+use Rattle.drawing_read.specs.Ids.{ids_of, number_of_id, node_with, fitting}
+use Rattle.drawing_read.specs.Spans.{point_vertex}
+use Rattle.drawing_read.specs.Faults.{is_no_numeral, lacks_end, has_unknown_end, bad_point_from, both_numbers, refused_in}
 use Rattle.gml_print.proofs.ListFacts.{position-map, position_none_tail, position_none_cons, neither, both_none}
 use Rattle.gml_print.proofs.MovedGraphs.{HavePlaces, HavePoints, EdgesHavePoints, moved_numbers, moved_node, moved_nodes, moved_points, moved_edges}
 
@@ -59,21 +58,6 @@ known_end ids end some = by_number (fitting end)
     by_number None = some
     by_number (Some id) = found_within (number_of_id ids id) (length ids) (λ i is. (position-Some (int_eq id) ids i (pos 0) is).0) some
 
--- the faults of nodes by their number and by the first without an id and with an unfit one
-id_fault_by : ℕ → Option ℕ → Option ℕ → Option DrawFault
-id_fault_by n absent unfit =
-    option_or (if nat_lt 0 n then None else Some Empty) (option_or (option_map (λ n. NoId n) absent) (option_map (λ n. BadId n) unfit))
-
-same_id_faults : (n m : ℕ) (a b c d : Option ℕ) → n ≡ m → a ≡ b → c ≡ d → id_fault_by n a c ≡ id_fault_by m b d
-same_id_faults n m a b c d first second third = cc
-
--- the faults of edges by the first without an end, the first with an unknown one, and the first bad point
-edge_fault_by : Option ℕ → Option ℕ → Option DrawFault → Option DrawFault
-edge_fault_by lacking unknown point = option_or (option_map (λ e. NoEnd e) lacking) (option_or (option_map (λ e. UnknownEnd e) unknown) point)
-
-same_edge_faults : (a b c d : Option ℕ) (e f : Option DrawFault) → a ≡ b → c ≡ d → e ≡ f → edge_fault_by a c e ≡ edge_fault_by b d f
-same_edge_faults a b c d e f first second third = cc
-
 module _ (where_is : ℕ → Point) where
   pub ids_moved : (n : ℕ) (nodes : List Node) → ids_of (moved_nodes where_is n nodes) ≡ ids_of nodes
   ids_moved n [] = refl
@@ -87,18 +71,11 @@ module _ (where_is : ℕ → Point) where
   length_moved n [] = refl
   length_moved n (node ∷ nodes) = ap suc (length_moved (n + 1) nodes)
 
-  ids_position : (p : WholeNumber → Bool) (n : ℕ) (nodes : List Node) →
+  pub ids_position : (p : WholeNumber → Bool) (n : ℕ) (nodes : List Node) →
       position (λ (node : Node). p node.id) (moved_nodes where_is n nodes) ≡ position (λ (node : Node). p node.id) nodes
   ids_position p n nodes =
       sym (position-map p (λ (node : Node). node.id) (moved_nodes where_is n nodes))
       ∙ ap (position p) (written_ids n nodes) ∙ position-map p (λ (node : Node). node.id) nodes
-
-  pub id_fault_moved : (n : ℕ) (nodes : List Node) → id_fault (moved_nodes where_is n nodes) ≡ id_fault nodes
-  unfolding id_fault_by
-  id_fault_moved n nodes =
-      same_id_faults (length (moved_nodes where_is n nodes)) (length nodes) (position (λ (node : Node). is_absent node.id) (moved_nodes where_is n nodes)) (position (λ (node : Node). is_absent node.id) nodes)
-      (position (λ (node : Node). is_unfit node.id) (moved_nodes where_is n nodes)) (position (λ (node : Node). is_unfit node.id) nodes)
-      (length_moved n nodes) (ids_position is_absent n nodes) (ids_position is_unfit n nodes)
 
   pub places_moved : (n : ℕ) (nodes : List Node) → HavePlaces nodes → position (λ node. is_none node.place) (moved_nodes where_is n nodes) ≡ None
   places_moved n [] have = refl
@@ -161,24 +138,15 @@ module _ (where_is : ℕ → Point) where
         position_none_cons (λ (point : Option Numbers). is_none point) (option_map (moved_numbers where_is (point_vertex span p)) point) (moved_points where_is span (p + 1) points)
         (mapped_is_there (moved_numbers where_is (point_vertex span p)) point ∙ have.0) (points_there span (p + 1) points have.1)
 
-    no_bad_point : (f e : ℕ) (edges : List Edge) → EdgesHavePoints edges → bad_point_from f (moved_edges where_is span_at e edges) ≡ None
+    pub no_bad_point : (f e : ℕ) (edges : List Edge) → EdgesHavePoints edges → bad_point_from f (moved_edges where_is span_at e edges) ≡ None
     no_bad_point f e [] have = refl
     no_bad_point f e (edge ∷ edges) have =
         both_none (option_map (λ p. BadPoint f p) (position is_none (moved_points where_is (span_at e) 0 edge.points))) (bad_point_from (f + 1) (moved_edges where_is span_at (e + 1) edges))
         (ap (option_map (λ p. BadPoint f p)) (points_there (span_at e) 0 edge.points have.0)) (no_bad_point (f + 1) (e + 1) edges have.1)
 
-    pub edge_fault_moved : (look : ℤ → Option ℕ) (edges : List Edge) → edge_fault look edges ≡ None → edge_fault look (moved_edges where_is span_at 0 edges) ≡ None
-    unfolding edge_fault_by
-    edge_fault_moved look edges is =
-        let lacks : position lacks_end (moved_edges where_is span_at 0 edges) ≡ position lacks_end edges =
-        ends_position (λ (ends : WholeNumber × WholeNumber). is_no_numeral ends.0 || is_no_numeral ends.1) 0 edges in
-        let unknown : position (has_unknown_end look) (moved_edges where_is span_at 0 edges) ≡ position (has_unknown_end look) edges =
-        ends_position (λ (ends : WholeNumber × WholeNumber). is_none (node_with look ends.0) || is_none (node_with look ends.1)) 0 edges in
-        let rest = neither (option_map (λ e. NoEnd e) (position lacks_end edges))
-        (option_or (option_map (λ e. UnknownEnd e) (position (has_unknown_end look) edges)) (bad_point_from 0 edges)) is in
-        let bad = (neither (option_map (λ e. UnknownEnd e) (position (has_unknown_end look) edges)) (bad_point_from 0 edges) rest.1).1 in
-        same_edge_faults (position lacks_end (moved_edges where_is span_at 0 edges)) (position lacks_end edges)
-        (position (has_unknown_end look) (moved_edges where_is span_at 0 edges)) (position (has_unknown_end look) edges)
-        (bad_point_from 0 (moved_edges where_is span_at 0 edges)) (bad_point_from 0 edges)
-        lacks unknown (no_bad_point 0 0 edges (edges_have_points 0 edges bad) ∙ sym bad)
-        ∙ is
+    -- the ends of the edges are as they were
+    pub lacking_moved : (edges : List Edge) → position lacks_end (moved_edges where_is span_at 0 edges) ≡ position lacks_end edges
+    lacking_moved edges = ends_position (λ (ends : WholeNumber × WholeNumber). is_no_numeral ends.0 || is_no_numeral ends.1) 0 edges
+
+    pub unknown_moved : (look : ℤ → Option ℕ) (edges : List Edge) → position (has_unknown_end look) (moved_edges where_is span_at 0 edges) ≡ position (has_unknown_end look) edges
+    unknown_moved look edges = ends_position (λ (ends : WholeNumber × WholeNumber). is_none (node_with look ends.0) || is_none (node_with look ends.1)) 0 edges

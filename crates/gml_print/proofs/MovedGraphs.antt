@@ -11,13 +11,14 @@ use Rattle.std.proofs.Math.Seq.{take-append_seam}
 use Rattle.compact_types.specs.declared.places.Point.{Point}
 use Rattle.compact_types.specs.declared.plan.Piece.{Piece}
 use Rattle.compact_types.specs.Lookups.{place}
-use Rattle.drawing_read.specs.declared.written.Numbers.{Numbers}
+use Rattle.drawing_read.specs.declared.numerals.Numbers.{Numbers}
 use Rattle.drawing_read.specs.declared.written.Node.{Node}
 use Rattle.drawing_read.specs.declared.written.Edge.{Edge}
-use Rattle.drawing_read.specs.declared.route.Route.{Route}
-use Rattle.drawing_read.specs.declared.route.Span.{Span}
-use Rattle.drawing_read.specs.Routes.{point_of, node_points, same_point, begins_at, ends_at, after_first_at, before_last_at, bends_of, chain}
-use Rattle.drawing_read.specs.Spots.{point_vertex}
+use Rattle.drawing_read.specs.declared.routes.Route.{Route}
+use Rattle.drawing_read.specs.declared.spans.Span.{Span}
+use Rattle.drawing_read.specs.Routes.{point_of, node_points}
+use Rattle.drawing_read.specs.Spans.{same_point, begins_at, ends_at, after_first_at, before_last_at, bends_of, chain}
+use Rattle.drawing_read.specs.Spans.{point_vertex}
 use Rattle.gml_print.proofs.ListFacts.{range_append}
 
 -- each of the nodes has a place

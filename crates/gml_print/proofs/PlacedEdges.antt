@@ -10,15 +10,17 @@ use Rattle.compact_types.specs.Lookups.{place, along}
 use Rattle.gml_text.specs.declared.tree.Pair.{Pair}
 use Rattle.gml_text.specs.declared.tree.Value.{Value}
 use Rattle.drawing_read.specs.declared.reading.Spot.{Spot}
-use Rattle.drawing_read.specs.declared.route.Span.{Span}
-use Rattle.drawing_read.specs.declared.written.Numbers.{Numbers}
+use Rattle.drawing_read.specs.declared.spans.Span.{Span}
+use Rattle.drawing_read.specs.declared.numerals.Numbers.{Numbers}
 use Rattle.drawing_read.specs.declared.written.Edge.{Edge}
-use Rattle.drawing_read.specs.declared.written.WholeNumber.{WholeNumber}
-use Rattle.drawing_read.specs.declared.written.WholeNumber.TheVariants.{Absent}
+use Rattle.drawing_read.specs.declared.numerals.WholeNumber.{WholeNumber}
+use Rattle.drawing_read.specs.declared.numerals.WholeNumber.TheVariants.{Absent}
 use Rattle.drawing_read.specs.Lookups.{has_key, list_in, first_list}
-use Rattle.drawing_read.specs.Thousandths.{thousandths_of}
-use Rattle.drawing_read.specs.WrittenGraphs.{numbers_in, whole_in, whole_under, point_in, line_of, edge_of}
-use Rattle.drawing_read.specs.Spots.{point_vertex, point_spots, edge_spots}
+use Rattle.gml_text.specs.Thousandths.{thousandths_of}
+use Rattle.drawing_read.specs.Numerals.{numbers_in, whole_in, whole_under}
+use Rattle.drawing_read.specs.Written.{point_in, line_of, edge_of}
+use Rattle.drawing_read.specs.Spans.{point_vertex}
+use Rattle.drawing_read.specs.Spots.{point_spots, edge_spots}
 use Rattle.gml_print.specs.Numbers.{number_text}
 use Rattle.gml_print.specs.Placing.{with_changed_value}
 use Rattle.gml_print.proofs.Changes.{changed_behind, apart_words}

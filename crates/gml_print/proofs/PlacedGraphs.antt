@@ -9,11 +9,12 @@ use Rattle.compact_types.specs.declared.places.Places.{Places}
 use Rattle.compact_types.specs.Lookups.{place, along}
 use Rattle.gml_text.specs.declared.tree.Pair.{Pair}
 use Rattle.gml_text.specs.declared.tree.Value.{Value}
-use Rattle.drawing_read.specs.declared.route.Span.{Span}
+use Rattle.drawing_read.specs.declared.spans.Span.{Span}
 use Rattle.drawing_read.specs.Lookups.{has_key, list_in, list_under, lists_under}
-use Rattle.drawing_read.specs.Thousandths.{thousandths_of}
-use Rattle.drawing_read.specs.WrittenGraphs.{node_of, node_in, edge_of, edge_in}
-use Rattle.drawing_read.specs.Spots.{node_spots, edge_spots, no_span, pair_spots, counted, graph_spots}
+use Rattle.gml_text.specs.Thousandths.{thousandths_of}
+use Rattle.drawing_read.specs.Written.{node_of, node_in, edge_of, edge_in}
+use Rattle.drawing_read.specs.Spots.{node_spots, edge_spots, pair_spots, counted, graph_spots}
+use Rattle.drawing_read.specs.Spans.{no_span}
 use Rattle.gml_print.specs.Numbers.{number_text}
 use Rattle.gml_print.specs.Placing.{with_changed_value}
 use Rattle.gml_print.proofs.ListFacts.{position_here, position_later}

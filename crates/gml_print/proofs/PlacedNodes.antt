@@ -12,14 +12,15 @@ use Rattle.gml_text.specs.declared.tree.Pair.{Pair}
 use Rattle.gml_text.specs.declared.tree.Value.{Value}
 use Rattle.gml_text.specs.declared.number.NumberFault.{NumberFault}
 use Rattle.drawing_read.specs.declared.reading.Spot.{Spot}
-use Rattle.drawing_read.specs.declared.written.Number.{Number}
-use Rattle.drawing_read.specs.declared.written.Numbers.{Numbers}
+use Rattle.drawing_read.specs.declared.numerals.Number.{Number}
+use Rattle.drawing_read.specs.declared.numerals.Numbers.{Numbers}
 use Rattle.drawing_read.specs.declared.written.Node.{Node}
-use Rattle.drawing_read.specs.declared.written.WholeNumber.{WholeNumber}
-use Rattle.drawing_read.specs.declared.written.WholeNumber.TheVariants.{Absent}
+use Rattle.drawing_read.specs.declared.numerals.WholeNumber.{WholeNumber}
+use Rattle.drawing_read.specs.declared.numerals.WholeNumber.TheVariants.{Absent}
 use Rattle.drawing_read.specs.Lookups.{list_in, first_under, first_list, place_under}
-use Rattle.drawing_read.specs.Thousandths.{thousandths_of}
-use Rattle.drawing_read.specs.WrittenGraphs.{numeral_in, number_of, number_under, numbers_in, whole_in, whole_under, node_of}
+use Rattle.gml_text.specs.Thousandths.{thousandths_of}
+use Rattle.drawing_read.specs.Numerals.{numeral_in, number_of, number_under, numbers_in, whole_in, whole_under}
+use Rattle.drawing_read.specs.Written.{node_of}
 use Rattle.drawing_read.specs.Spots.{spot, coordinate_spots, inside, node_spots}
 use Rattle.gml_print.specs.Numbers.{number_text}
 use Rattle.gml_print.specs.Placing.{with_changed_value}

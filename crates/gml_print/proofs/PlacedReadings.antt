@@ -16,25 +16,26 @@ use Rattle.compact_types.specs.declared.plan.Way.{Way}
 use Rattle.compact_types.specs.declared.plan.Way.TheVariants.{East, West, High, Low}
 use Rattle.compact_types.specs.Lookups.{place, piece_at, way_at, origin}
 use Rattle.compact_types.specs.Ways.{HasWay}
-use Rattle.compact_types.specs.Drawings.{IsDrawing, begin_of, end_of}
+use Rattle.compact_types.specs.Drawings.{IsCrossingFree, begin_of, end_of}
 use Rattle.gml_text.specs.declared.tree.Tree.{Tree, out-Tree}
 use Rattle.gml_text.specs.declared.tree.Pair.{Pair}
 use Rattle.gml_text.specs.declared.tree.Value.{Value}
 use Rattle.drawing_read.specs.declared.reading.Reading.{Reading}
-use Rattle.drawing_read.specs.declared.route.Span.{Span}
+use Rattle.drawing_read.specs.declared.spans.Span.{Span}
 use Rattle.drawing_read.specs.declared.written.Node.{Node}
 use Rattle.drawing_read.specs.declared.written.Edge.{Edge}
 use Rattle.drawing_read.specs.declared.written.Graph.{Graph}
 use Rattle.drawing_read.specs.Lookups.{has_key, list_in, list_under, lists_under}
-use Rattle.drawing_read.specs.Routes.{points_in, spans_in, pieces_of, pieces_in}
-use Rattle.drawing_read.specs.WrittenGraphs.{edge_in, graph_of}
-use Rattle.drawing_read.specs.DrawFaults.{graphs_of, graph_fault}
+use Rattle.drawing_read.specs.Spans.{points_in, spans_in, pieces_of, pieces_in}
+use Rattle.drawing_read.specs.Written.{edge_in, graph_of}
+use Rattle.drawing_read.specs.Faults.{graphs_of, graph_fault}
 use Rattle.drawing_read.specs.Spots.{graph_spots}
 use Rattle.drawing_read.specs.Readings.{graph_place, IsGraphReading, IfOne, IsReading}
 use Rattle.gml_print.specs.Placing.{with_changed_value}
-use Rattle.gml_print.specs.Places.{placed, AreWithin, CanPut, in_thousandths, moved_reading}
+use Rattle.gml_print.specs.declared.limits.TheConstants.{MOST_PITCH}
+use Rattle.gml_print.specs.Places.{placed, CanPut, in_thousandths, moved_reading}
 use Rattle.gml_print.proofs.ListFacts.{length_range}
-use Rattle.gml_print.proofs.PlaceNumbers.{numerals_tell, same_multiple, place_within}
+use Rattle.gml_print.proofs.PlaceNumbers.{AreWritable, are_writable, numerals_tell, same_multiple, place_writable}
 use Rattle.gml_print.proofs.Changes.{changed_at}
 use Rattle.gml_print.proofs.Puts.{puts, replaced_by, replaced_by_list, placed_pairs, puts_behind}
 use Rattle.gml_print.proofs.SpotPaths.{graph_relative, graph_leads}
@@ -62,19 +63,19 @@ all_new_places pitch places n long =
     (λ k within. get_or-map (in_thousandths pitch) places.xy k origin (in_thousandths pitch origin) (omega arith))
 
 -- the ends of a piece with a way have different places in thousandths
-ends_differ : (pitch : ℕ) (places : Places) → AreWithin places → 1 ≤ pitch → (u v : ℕ) (way : Way) → HasWay way (place places.xy u) (place places.xy v) →
+ends_differ : (pitch : ℕ) (places : Places) → AreWritable places → 1 ≤ pitch → (u v : ℕ) (way : Way) → HasWay way (place places.xy u) (place places.xy v) →
     new_place pitch places u ≡ new_place pitch places v → ⊥
 ends_differ pitch places within some u v East has is =
-    let same = same_multiple (1000 * pitch) (place places.xy u).x (place places.xy v).x (omega arith) (place_within places within u X) (place_within places within v X) (ap (λ (p : Point). p.x) is) in
+    let same = same_multiple (1000 * pitch) (place places.xy u).x (place places.xy v).x (omega arith) (place_writable places within u X) (place_writable places within v X) (ap (λ (p : Point). p.x) is) in
     omega (arith, ints, has.0)
 ends_differ pitch places within some u v West has is =
-    let same = same_multiple (1000 * pitch) (place places.xy u).x (place places.xy v).x (omega arith) (place_within places within u X) (place_within places within v X) (ap (λ (p : Point). p.x) is) in
+    let same = same_multiple (1000 * pitch) (place places.xy u).x (place places.xy v).x (omega arith) (place_writable places within u X) (place_writable places within v X) (ap (λ (p : Point). p.x) is) in
     omega (arith, ints, has.0)
 ends_differ pitch places within some u v High has is =
-    let same = same_multiple (1000 * pitch) (place places.xy u).y (place places.xy v).y (omega arith) (place_within places within u Y) (place_within places within v Y) (ap (λ (p : Point). p.y) is) in
+    let same = same_multiple (1000 * pitch) (place places.xy u).y (place places.xy v).y (omega arith) (place_writable places within u Y) (place_writable places within v Y) (ap (λ (p : Point). p.y) is) in
     omega (arith, ints, has.0)
 ends_differ pitch places within some u v Low has is =
-    let same = same_multiple (1000 * pitch) (place places.xy u).y (place places.xy v).y (omega arith) (place_within places within u Y) (place_within places within v Y) (ap (λ (p : Point). p.y) is) in
+    let same = same_multiple (1000 * pitch) (place places.xy u).y (place places.xy v).y (omega arith) (place_writable places within u Y) (place_writable places within v Y) (ap (λ (p : Point). p.y) is) in
     omega (arith, ints, has.0)
 
 all_apart : (where_is : ℕ → Point) (pieces : List Piece) →
@@ -82,11 +83,11 @@ all_apart : (where_is : ℕ → Point) (pieces : List Piece) →
 all_apart where_is [] differ = tt
 all_apart where_is (piece ∷ pieces) differ = (differ 0 (omega arith), all_apart where_is pieces (λ i within. differ (suc i) (omega arith)))
 
-drawing_apart : (pitch : ℕ) (places : Places) (shape : Shape) (plan : Plan) → AreWithin places → 1 ≤ pitch → shape.plan ≡ plan → IsDrawing shape places →
+drawing_apart : (pitch : ℕ) (places : Places) (shape : Shape) (plan : Plan) → AreWritable places → 1 ≤ pitch → shape.plan ≡ plan → IsCrossingFree shape places →
     Apart (new_place pitch places) plan.pieces
-drawing_apart pitch places shape plan within some same drawing =
+drawing_apart pitch places shape plan within some same crossing_free =
     let HasAll : Plan → Type 0 = λ plan. (i : ℕ) → i < length plan.pieces → HasWay (way_at shape.ways i) (begin_of plan places i) (end_of plan places i) in
-    let ways : HasAll plan = subst HasAll same drawing.ways in
+    let ways : HasAll plan = subst HasAll same crossing_free.ways in
     all_apart (new_place pitch places) plan.pieces
     (λ i here. ends_differ pitch places within some (piece_at plan.pieces i).from (piece_at plan.pieces i).to (way_at shape.ways i) (ways i here))
 
@@ -95,7 +96,7 @@ made_graph nodes edges = record { nodes = nodes; edges = edges }
 
 -- the graph at the top of a tree with its numerals put
 module _ (reading : Reading) (places : Places) (pitch at : ℕ) (pairs : List Pair) (read : IsGraphReading at pairs reading)
-    (one_for_each : length places.xy ≡ reading.plan.vertices) (within : AreWithin places) (most : pitch ≤ 10000)
+    (one_for_each : length places.xy ≡ reading.plan.vertices) (within : AreWritable places) (most : pitch ≤ MOST_PITCH)
     (apart : Apart (new_place pitch places) reading.plan.pieces) where
   abbrev pub new_pairs : List Pair
   new_pairs = placed_graph places pitch (spans_in (graph_of pairs)) 0 0 pairs
@@ -133,9 +134,9 @@ module _ (reading : Reading) (places : Places) (pitch at : ℕ) (pairs : List Pa
 
 -- the tree with new places has the reading with these places
 pub placed_reading : (tree : Tree) (reading : Reading) (places : Places) (pitch : ℕ) (shape : Shape) →
-    CanPut tree reading places pitch → shape.plan ≡ reading.plan → IsDrawing shape places →
+    CanPut tree reading places pitch → shape.plan ≡ reading.plan → IsCrossingFree shape places →
     IsReading (placed tree reading.spots places pitch) (moved_reading reading places pitch)
-placed_reading tree reading places pitch shape can same drawing =
+placed_reading tree reading places pitch shape can same crossing_free =
     let one = only_graph (graphs_of tree) (λ pairs. IsGraphReading (graph_place tree) pairs reading) can.read in
     let pairs = one.0 in
     let read = one.2 in
@@ -160,10 +161,11 @@ placed_reading tree reading places pitch shape can same drawing =
     let same_place : at ≡ graph_place new =
     here ∙ sym (ap (λ (pairs : List Pair). unwrap_or (position (λ pair. is_some (list_under (codes "graph") pair)) pairs) 0) (new_top ∙ changed_here)
     ∙ ap (λ (o : Option ℕ). unwrap_or o 0) only.1.new_place) in
-    let apart = drawing_apart pitch places shape reading.plan can.within can.some_pitch same drawing in
+    let writable = are_writable places can.not_below can.within in
+    let apart = drawing_apart pitch places shape reading.plan writable can.some_pitch same crossing_free in
     let P : ℕ → Type 0 = λ at. IsGraphReading at (placed_graph places pitch spans 0 0 pairs) (moved_reading reading places pitch) in
     is_one (graphs_of new) (placed_graph places pitch spans 0 0 pairs) (λ pairs. IsGraphReading (graph_place new) pairs (moved_reading reading places pitch)) lists
-    (subst P same_place (graph_read reading places pitch at pairs read can.one_for_each can.within can.most_pitch apart))
+    (subst P same_place (graph_read reading places pitch at pairs read can.one_for_each writable can.most_pitch apart))
   where
     list_changed : (b : Bool) (new old : Option (List Pair)) (change : List Pair → List Pair) → new ≡ option_map change old →
         cond b new None ≡ option_map change (cond b old None)

@@ -9,14 +9,15 @@ use Rattle.gml_text.specs.declared.tree.Tree.{Tree, out-Tree}
 use Rattle.gml_text.specs.declared.tree.Pair.{Pair}
 use Rattle.gml_text.specs.declared.tree.Value.{Value}
 use Rattle.drawing_read.specs.declared.reading.Spot.{Spot}
-use Rattle.drawing_read.specs.declared.route.Span.{Span}
+use Rattle.drawing_read.specs.declared.spans.Span.{Span}
 use Rattle.drawing_read.specs.declared.reading.Reading.{Reading}
-use Rattle.drawing_read.specs.Routes.{spans_in}
-use Rattle.drawing_read.specs.WrittenGraphs.{graph_of}
-use Rattle.drawing_read.specs.DrawFaults.{graphs_of}
+use Rattle.drawing_read.specs.Spans.{spans_in}
+use Rattle.drawing_read.specs.Written.{graph_of}
+use Rattle.drawing_read.specs.Faults.{graphs_of}
 use Rattle.drawing_read.specs.Readings.{graph_place, IsGraphReading, IsReading}
 use Rattle.drawing_read.specs.Lookups.{has_key, list_in, list_under, lists_under, first_list, place_under}
-use Rattle.drawing_read.specs.Spots.{spot, in_order, coordinate_spots, inside, node_spots, point_vertex, point_spots, edge_spots, no_span, pair_spots, counted, graph_spots}
+use Rattle.drawing_read.specs.Spots.{spot, in_order, coordinate_spots, inside, node_spots, point_spots, edge_spots, pair_spots, counted, graph_spots}
+use Rattle.drawing_read.specs.Spans.{point_vertex, no_span}
 use Rattle.gml_print.specs.Paths.{value_below, value_in, Part}
 use Rattle.gml_print.proofs.ListFacts.{found_at, position_here, position_later}
 use Rattle.gml_print.proofs.PlacedReadings.{only_graph}

@@ -7,9 +7,10 @@ use Rattle.compact_types.specs.declared.places.Axis.TheVariants.{X, Y}
 use Rattle.gml_text.specs.declared.tree.Pair.{Pair}
 use Rattle.gml_text.specs.declared.tree.Value.{Value}
 use Rattle.drawing_read.specs.declared.reading.Spot.{Spot}
-use Rattle.drawing_read.specs.declared.route.Span.{Span}
+use Rattle.drawing_read.specs.declared.spans.Span.{Span}
 use Rattle.drawing_read.specs.Lookups.{has_key, list_in, list_under, first_list, place_under}
-use Rattle.drawing_read.specs.Spots.{spot, in_order, coordinate_spots, inside, node_spots, point_vertex, point_spots, edge_spots, no_span, pair_spots, counted, graph_spots}
+use Rattle.drawing_read.specs.Spots.{spot, in_order, coordinate_spots, inside, node_spots, point_spots, edge_spots, pair_spots, counted, graph_spots}
+use Rattle.drawing_read.specs.Spans.{point_vertex, no_span}
 use Rattle.gml_print.proofs.Puts.{behind, behind_two, LeadIn, both_lead_in, behind_leads_in}
 
 -- what a path leads to has its spots behind the path

@@ -1,5 +1,6 @@
 -- Values by their paths in a tree, and a tree without some of them.
-use Rattle.std.specs.Prelude.{◌≡◌, ℕ, List, [], ◌∷◌, Option, None, Some, ◌⊎◌, slice_get, option_and_then}
+use Rattle.std.specs.Prelude.{◌≡◌, ℕ, List, [], ◌∷◌, Option, None, Some, ◌⊎◌, slice_get}
+use Rattle.std.specs.Prelude.{option_and_then}
 use Rattle.gml_text.specs.declared.tree.Tree.{Tree, out-Tree}
 use Rattle.gml_text.specs.declared.tree.Pair.{Pair}
 use Rattle.gml_text.specs.declared.tree.Value.{Value}
@@ -12,12 +13,15 @@ use Rattle.gml_print.specs.Placing.{put_value}
 abbrev pub value_below : List ℕ → Value → Option Value
 value_below [] value = Some value
 value_below (place ∷ path) value =
-    option_and_then (λ pairs. option_and_then (λ pair. value_below path pair.value) (slice_get pairs place)) (list_in value)
+    option_and_then
+    (λ pairs. option_and_then (λ pair. value_below path pair.value) (slice_get pairs place))
+    (list_in value)
 
 -- the value in the list to which a path of places leads
 abbrev pub value_in : List ℕ → List Pair → Option Value
 value_in [] pairs = None
-value_in (place ∷ path) pairs = option_and_then (λ pair. value_below path pair.value) (slice_get pairs place)
+value_in (place ∷ path) pairs =
+    option_and_then (λ pair. value_below path pair.value) (slice_get pairs place)
 
 -- the value in the tree to which a path of places leads
 abbrev pub value_at : List ℕ → Tree → Option Value

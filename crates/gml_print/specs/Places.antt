@@ -4,6 +4,8 @@ use Rattle.compact_types.specs.declared.places.Point.{Point}
 use Rattle.compact_types.specs.declared.places.Places.{Places}
 use Rattle.compact_types.specs.declared.places.Axis.{Axis}
 use Rattle.compact_types.specs.Lookups.{place, along}
+use Rattle.compact_types.specs.Magnitudes.{AreWithin}
+use Rattle.gml_print.specs.declared.limits.TheConstants.{GREATEST_PLACE, MOST_PITCH}
 use Rattle.gml_text.specs.declared.tree.Tree.{Tree}
 use Rattle.gml_text.specs.declared.tree.Value.{Value}
 use Rattle.gml_text.specs.declared.tree.Value.TheVariants.{Whole}
@@ -24,24 +26,27 @@ numeral_for places pitch spot = Whole (number_text (pos pitch *ℤ coordinate_at
 -- the tree with that numeral in place of the value at each spot's path
 abbrev pub placed : Tree → List Spot → Places → ℕ → Tree
 placed tree [] places pitch = tree
-placed tree (spot ∷ spots) places pitch = placed (put_value spot.path (numeral_for places pitch spot) tree) spots places pitch
+placed tree (spot ∷ spots) places pitch =
+    placed (put_value spot.path (numeral_for places pitch spot) tree) spots places pitch
 
--- both coordinates of each place are from 0 to 999,000
-abbrev pub AreWithin : Places → Type 0
-AreWithin places = (v : ℕ) (axis : Axis) → v < length places.xy →
-    (pos 0 ≤ℤ (along axis (place places.xy v))) × ((along axis (place places.xy v)) ≤ℤ pos 999000)
+-- no coordinate of a place is below zero
+abbrev pub NoneBelowZero : Places → Type 0
+NoneBelowZero places =
+    (axis : Axis) (v : ℕ) → v < length places.xy → pos 0 ≤ℤ (along axis (place places.xy v))
 
 -- the places can be written into the tree of this reading, with so many units between neighbours
 pub record CanPut (tree : Tree) (reading : Reading) (places : Places) (pitch : ℕ) : Type 0 where
   pub read : IsReading tree reading
   pub one_for_each : length places.xy ≡ reading.plan.vertices
-  pub within : AreWithin places
+  pub not_below : NoneBelowZero places
+  pub within : AreWithin GREATEST_PLACE places
   pub some_pitch : 1 ≤ pitch
-  pub most_pitch : pitch ≤ 10000
+  pub most_pitch : pitch ≤ MOST_PITCH
 
 -- a place in thousandths, with so many units between neighbours
 abbrev pub in_thousandths : ℕ → Point → Point
-in_thousandths pitch point = record { x = pos (1000 * pitch) *ℤ point.x; y = pos (1000 * pitch) *ℤ point.y }
+in_thousandths pitch point =
+    record { x = pos (1000 * pitch) *ℤ point.x; y = pos (1000 * pitch) *ℤ point.y }
 
 -- the reading with these places of its vertices: the same plan and the same spots
 abbrev pub moved_reading : Reading → Places → ℕ → Reading

@@ -2,9 +2,8 @@
 
 ghost use Rattle.std.specs.Prelude.{◌≡◌, IfOk};
 
-use compact_types::items::Items;
-use compact_types::refusal::NoMemory;
-use gml_text::tree::{Pair, Tree, Value};
+use compact_types::{Items, NoMemory};
+use gml_text::{Pair, Tree, Value};
 use std::alloc::Global;
 
 /// A copy of `tree`, at every depth.

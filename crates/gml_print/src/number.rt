@@ -1,10 +1,9 @@
-ghost use Rattle.std.specs.Prelude.{◌≡◌, ℤ, true, IfOk, FitsSigned};
-ghost use Rattle.std.specs.Int.{w64};
-ghost use Rattle.gml_text.specs.Numerals.{is_whole_numeral, value_of_whole};
+//! The text of a number.
+
+ghost use Rattle.std.specs.Prelude.{◌≡◌, IfOk};
 ghost use Rattle.gml_print.specs.Numbers.{number_text};
 
-use compact_types::items::Items;
-use compact_types::refusal::NoMemory;
+use compact_types::{Items, NoMemory};
 use itoa::Buffer;
 use std::alloc::Global;
 
@@ -15,12 +14,6 @@ pub fn whole_text(alloc: Global, number: i64) -> Result<Items<u8>, NoMemory>
     let mut buffer = Buffer::new();
     Items::from_slice(alloc, buffer.format(number).as_bytes())
 }
-
-/// The law of `whole_text`: the text of a number is a whole numeral, and its value is that number.
-pub fn text_has_its_number()
-    ensures numeral { (number : ℤ) → FitsSigned w64 number → is_whole_numeral (number_text number) ≡ true }
-    ensures value { (number : ℤ) → FitsSigned w64 number → value_of_whole (number_text number) ≡ number }
-{}
 
 #[cfg(test)]
 mod tests {

@@ -1,17 +1,19 @@
-ghost use Rattle.std.specs.Prelude.{◌≡◌, ℕ, List, [], ◌∷◌, ◌++◌, IfOk, OnOk};
-ghost use Rattle.gml_print.specs.Printing.{space, line_feed, opening_bracket, closing_bracket, printed, printed_at, pair_text, value_text, quoted, indentation};
+//! The text of a tree.
 
-use compact_types::items::Items;
-use compact_types::refusal::NoMemory;
-use gml_text::tree::{Pair, Tree, Value};
+ghost use Rattle.std.specs.Prelude.{◌≡◌, ℕ, List, [], ◌∷◌, ◌++◌, IfOk, OnOk};
+ghost use Rattle.gml_print.specs.Printing as printing;
+ghost use Rattle.gml_print.specs.inner.Pieces.{pair_text, value_text};
+
+use compact_types::{Items, NoMemory};
+use gml_text::{CLOSING_BRACKET, LINE_FEED, OPENING_BRACKET, Pair, QUOTE, SPACE, Tree, Value};
 use std::alloc::Global;
 
 /// The text of `tree`: one line for each pair that is no list, behind two spaces for each depth.
 ///
-/// Numerals stand as they were read and strings with their quotes. A list is a line with its key and `[`, the lines
-/// of its pairs, and a line with `]`.
+/// Numerals stand as they were read and strings with their quotes. A list is a line with its key
+/// and `[`, the lines of its pairs, and a line with `]`.
 pub fn print_tree(alloc: Global, tree: &Tree) -> Result<Items<u8>, NoMemory>
-    ensures { IfOk result (λ text. text ≡ printed tree.now) }
+    ensures { IfOk result (λ text. text ≡ printing.printed tree.now) }
 {
     let mut indent = Items::new(alloc);
     let mut text = Items::new(alloc);
@@ -19,12 +21,13 @@ pub fn print_tree(alloc: Global, tree: &Tree) -> Result<Items<u8>, NoMemory>
     Ok(text)
 }
 
-/// Adds the lines of the pairs of `tree` to `text`; `indent` is two spaces for each list around them.
+/// Adds the lines of the pairs of `tree` to `text`; `indent` is two spaces for each list around
+/// them.
 #[cycle(writing)]
 fn write_tree(tree: &Tree, indent: &mut Items<u8>, text: &mut Items<u8>) -> Result<(), NoMemory>
     ensures indent { OnOk result (indent.new ≡ indent.old) }
-    ensures text { (depth : ℕ) → indent.old ≡ indentation depth →
-        OnOk result (text.new ≡ text.old ++ printed_at tree.now depth) }
+    ensures text { (depth : ℕ) → indent.old ≡ printing.indentation depth →
+        OnOk result (text.new ≡ text.old ++ printing.printed_at tree.now depth) }
 {
     for pair in tree.pairs.as_slice() {
         write_pair(pair, indent, text)?;
@@ -36,21 +39,21 @@ fn write_tree(tree: &Tree, indent: &mut Items<u8>, text: &mut Items<u8>) -> Resu
 #[cycle(writing)]
 fn write_pair(pair: &Pair, indent: &mut Items<u8>, text: &mut Items<u8>) -> Result<(), NoMemory>
     ensures indent { OnOk result (indent.new ≡ indent.old) }
-    ensures text { (depth : ℕ) → indent.old ≡ indentation depth →
+    ensures text { (depth : ℕ) → indent.old ≡ printing.indentation depth →
         OnOk result (text.new ≡ text.old ++ pair_text pair.now depth) }
 {
     text.extend_from_slice(indent.as_slice())?;
     text.extend_from_slice(pair.key.as_slice())?;
-    text.push(b' ')?;
+    text.push(SPACE)?;
     write_value(&pair.value, indent, text)?;
-    text.push(b'\n')
+    text.push(LINE_FEED)
 }
 
 /// Adds the text of `value` to `text`, where `indent` stands before its key.
 #[cycle(writing)]
 fn write_value(value: &Value, indent: &mut Items<u8>, text: &mut Items<u8>) -> Result<(), NoMemory>
     ensures indent { OnOk result (indent.new ≡ indent.old) }
-    ensures text { (depth : ℕ) → indent.old ≡ indentation depth →
+    ensures text { (depth : ℕ) → indent.old ≡ printing.indentation depth →
         OnOk result (text.new ≡ text.old ++ value_text value.now depth) }
 {
     match value {
@@ -66,33 +69,33 @@ fn write_value(value: &Value, indent: &mut Items<u8>, text: &mut Items<u8>) -> R
 
 /// Adds a string with its quotes to `text`.
 fn write_string(inside: &[u8], text: &mut Items<u8>) -> Result<(), NoMemory>
-    ensures { OnOk result (text.new ≡ text.old ++ quoted inside.now) }
+    ensures { OnOk result (text.new ≡ text.old ++ printing.quoted inside.now) }
 {
-    text.push(b'"')?;
+    text.push(QUOTE)?;
     text.extend_from_slice(inside)?;
-    text.push(b'"')
+    text.push(QUOTE)
 }
 
 /// Ends the line of a key with `[`; the lines that follow stand one depth deeper.
 fn open_list(indent: &mut Items<u8>, text: &mut Items<u8>) -> Result<(), NoMemory>
-    ensures indent { OnOk result (indent.new ≡ indent.old ++ space ∷ space ∷ []) }
-    ensures text { OnOk result (text.new ≡ text.old ++ opening_bracket ∷ line_feed ∷ []) }
+    ensures indent { OnOk result (indent.new ≡ indent.old ++ SPACE ∷ SPACE ∷ []) }
+    ensures text { OnOk result (text.new ≡ text.old ++ OPENING_BRACKET ∷ LINE_FEED ∷ []) }
 {
-    text.extend_from_slice(b"[\n")?;
-    indent.extend_from_slice(b"  ")
+    text.extend_from_slice(&[OPENING_BRACKET, LINE_FEED])?;
+    indent.extend_from_slice(&[SPACE, SPACE])
 }
 
 /// Goes back to the depth before a list, and adds `]` there.
 fn close_list(indent: &mut Items<u8>, text: &mut Items<u8>) -> Result<(), NoMemory>
-    ensures indent { (outer : List ℕ) → indent.old ≡ outer ++ space ∷ space ∷ [] →
+    ensures indent { (outer : List ℕ) → indent.old ≡ outer ++ SPACE ∷ SPACE ∷ [] →
         OnOk result (indent.new ≡ outer) }
-    ensures text { (outer : List ℕ) → indent.old ≡ outer ++ space ∷ space ∷ [] →
-        OnOk result (text.new ≡ text.old ++ outer ++ closing_bracket ∷ []) }
+    ensures text { (outer : List ℕ) → indent.old ≡ outer ++ SPACE ∷ SPACE ∷ [] →
+        OnOk result (text.new ≡ text.old ++ outer ++ CLOSING_BRACKET ∷ []) }
 {
     indent.pop();
     indent.pop();
     text.extend_from_slice(indent.as_slice())?;
-    text.push(b']')
+    text.push(CLOSING_BRACKET)
 }
 
 #[cfg(test)]
@@ -135,20 +138,25 @@ mod tests {
         })
     }
 
+    /// The text of the tree that `file` gives.
+    const FILE: &[u8] = b"version +1\n\
+        graph [\n\
+        \x20 node [\n\
+        \x20   id -007\n\
+        \x20 ]\n\
+        \x20 edge [\n\
+        \x20 ]\n\
+        ]\n\
+        scale .5E-3\n\
+        label \"# a\n\xc3\xa9 [\"\n";
+
     #[test]
     fn texts_of_trees(rt: HostRuntime) -> Result<(), Fail> {
         let alloc = rt.alloc();
         let empty = Tree {
             pairs: Items::new(alloc),
         };
-        let cases = [
-            (empty, b"".as_slice()),
-            (
-                file(alloc)?,
-                b"version +1\ngraph [\n  node [\n    id -007\n  ]\n  edge [\n  ]\n]\nscale .5E-3\nlabel \"# a\n\xc3\xa9 [\"\n".as_slice(),
-            ),
-        ];
-        for (tree, text) in cases.iter() {
+        for (tree, text) in [(empty, b"".as_slice()), (file(alloc)?, FILE)].iter() {
             let printed = print_tree(alloc, tree)?;
             assert_eq!(rt; printed.as_slice(), *text);
         }

@@ -1,36 +1,41 @@
+//! A drawing read with new places.
+
 ghost use Rattle.std.specs.Prelude.{pos, ◌≤ℤ◌, IsTrue};
-ghost use Rattle.gml_print.specs.Places as placing;
+ghost use Rattle.compact_types.specs.Magnitudes.{AreWithin};
+ghost use Rattle.gml_print.specs.Places.{NoneBelowZero};
 
 use super::*;
+use crate::limits::GREATEST_PLACE;
 use crate::print::print_tree;
-use compact_types::items::Items;
-use compact_types::places::Point;
-use drawing_read::read::read_drawing;
-use gml_text::read::read_tree;
+use compact_types::{Items, Point};
+use drawing_read::read_drawing;
+use gml_text::read_tree;
 use std::test::Fail;
 
 /// Two nodes, the second with y before x, and an edge with a point for its source and a bend.
-const BENT: &[u8] =
-    b"graph [ node [ id 0 graphics [ x 0.0 y 0 x 7 ] ] node [ id 1 x 5 graphics [ y 4e0 x 5 ] ] \
+const BENT: &[u8] = b"graph [ \
+    node [ id 0 graphics [ x 0.0 y 0 x 7 ] ] node [ id 1 x 5 graphics [ y 4e0 x 5 ] ] \
     edge [ source 0 target 1 graphics [ Line [ point [ x 0 y 0 ] point [ x 0 y 4 ] ] ] ] ]";
 
-/// The same with the nodes at (1, 0) and (3, 2) and the bend at (1, 2), ten units between neighbours.
-const MOVED: &[u8] =
-    b"graph [ node [ id 0 graphics [ x 10 y 0 x 7 ] ] node [ id 1 x 5 graphics [ y 20 x 30 ] ] \
+/// The same with the nodes at (1, 0) and (3, 2) and the bend at (1, 2), ten units between
+/// neighbours.
+const MOVED: &[u8] = b"graph [ \
+    node [ id 0 graphics [ x 10 y 0 x 7 ] ] node [ id 1 x 5 graphics [ y 20 x 30 ] ] \
     edge [ source 0 target 1 graphics [ Line [ point [ x 10 y 0 ] point [ x 10 y 20 ] ] ] ] ]";
 
-fn is_within(number: i64) -> bool
+fn may_stand(number: i64) -> bool
     ensures low { IsTrue result → pos 0 ≤ℤ number }
-    ensures high { IsTrue result → number ≤ℤ pos 999000 }
+    ensures high { IsTrue result → number ≤ℤ pos GREATEST_PLACE }
 {
-    number >= 0 && number <= 999_000
+    number >= 0 && number <= GREATEST_PLACE as i64
 }
 
-fn are_within(places: &Places) -> bool
-    ensures { IsTrue result → placing.AreWithin places.now }
+fn may_be_put(places: &Places) -> bool
+    ensures not_below { IsTrue result → NoneBelowZero places.now }
+    ensures within { IsTrue result → AreWithin GREATEST_PLACE places.now }
 {
     for point in places.xy.as_slice() {
-        if !is_within(point.x) || !is_within(point.y) {
+        if !may_stand(point.x) || !may_stand(point.y) {
             return false;
         }
     }
@@ -45,7 +50,7 @@ fn numerals_at_their_spots(rt: HostRuntime) -> Result<(), Fail> {
     let places = Places {
         xy: Items::from_slice(rt.alloc(), points.as_slice())?,
     };
-    assert!(rt; are_within(&places));
+    assert!(rt; may_be_put(&places));
     assert_eq!(rt; places.xy.len(), reading.plan.vertices as usize);
     let new = put_places(rt.alloc(), &tree, &reading, &places, 10)?;
     let moved = read_tree(rt.alloc(), MOVED)?;

@@ -2,7 +2,9 @@ use Rattle.std.proofs.Common.{◌≡◌, [], ◌∷◌, ◌++◌, ap, ◌∙◌,
 use Rattle.std.specs.List.{flat_map}
 use Rattle.std.proofs.lemmas.List.{take_all}
 use Rattle.std.proofs.lemmas.Result.{on_ok_weaker}
-use Rattle.gml_print.specs.Printing.{space, printed_at, pair_text, indentation}
+use Rattle.gml_text.specs.declared.marks.TheConstants.{SPACE}
+use Rattle.gml_print.specs.Printing.{printed_at, indentation}
+use Rattle.gml_print.specs.inner.Pieces.{pair_text}
 use Rattle.gml_print.proofs.Printed.{indentation_deeper, bracketed_pieces, printed_at_lines}
 use Rattle.gml_print.proofs.print.+writing.Goals as goal
 
@@ -12,7 +14,7 @@ write_value-returns-in_ok-write_tree-in-Inner-clause-text t c = λ depth e.
     let opened = c.in_ok-open_list-in-Inner.ensures in
     let inside = c.in_ok-write_tree-in-Inner.ensures in
     let deeper : c.open_list.new.indent ≡ indentation (suc depth) =
-    opened.indent ∙ ap (λ spaces. spaces ++ space ∷ space ∷ []) e ∙ indentation_deeper depth in
+    opened.indent ∙ ap (λ spaces. spaces ++ SPACE ∷ SPACE ∷ []) e ∙ indentation_deeper depth in
     rw c.in-Inner.is
     (on_ok_weaker c.close_list.result
     (bracketed_pieces depth c.args.text.now _ (printed_at c.in-Inner.tree (suc depth)) _ _ _ opened.text (inside.text (suc depth) deeper) e)

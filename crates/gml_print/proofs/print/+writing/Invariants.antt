@@ -1,6 +1,7 @@
 use Rattle.std.proofs.Common.{◌≡◌, ℕ, ◌++◌, take}
 use Rattle.std.specs.List.{flat_map}
-use Rattle.gml_print.specs.Printing.{pair_text, indentation}
+use Rattle.gml_print.specs.Printing.{indentation}
+use Rattle.gml_print.specs.inner.Pieces.{pair_text}
 use Rattle.gml_print.proofs.print.+writing.Given as goal
 
 -- the indentation is that of the start, and the text has the lines of the pairs so far

@@ -6,7 +6,7 @@ use Rattle.gml_print.proofs.SpotValues.{Each, others_stay, numerals_stand, rest_
 use Rattle.gml_print.proofs.SpotParts.{reading_fit}
 use Rattle.gml_print.specs.Paths.{value_at, Part}
 use Rattle.gml_print.specs.Places.{placed, numeral_for}
-use Rattle.gml_print.proofs.places.only_spots_change.Goals as goal
+use Rattle.gml_print.proofs.promises.only_spots_change.Goals as goal
 
 all_from_each : (P : Spot → Type 0) (spots : List Spot) → Each P spots → All P spots
 all_from_each P [] each = All-nil P
