@@ -3,3 +3,5 @@ pub mod MeetingLemmas
 pub mod WayLemmas
 pub mod GroupLemmas
 pub mod ShapeLemmas
+pub mod AnswerLemmas
+pub mod Laws

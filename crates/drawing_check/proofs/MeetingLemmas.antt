@@ -8,16 +8,16 @@ use Rattle.compact_types.specs.declared.plan.Piece.{Piece}
 use Rattle.compact_types.specs.declared.plan.Plan.{Plan}
 use Rattle.compact_types.specs.declared.plan.Shape.{Shape}
 use Rattle.compact_types.specs.Lookups.{place, piece_at, IsEnd, HaveSameEnds}
-use Rattle.compact_types.specs.Drawings.{MayShare, HasWays, IsCrossingFree, IsDrawing}
+use Rattle.compact_types.specs.Drawings.{MayShare, MeetOnlyAtEnds, HasWays, IsCrossingFree, IsDrawing}
 use Rattle.drawing_check.specs.declared.span.Extent.{Extent}
 use Rattle.drawing_check.specs.declared.covered.Covered.{Covered}
-use Rattle.drawing_check.specs.Spans.{IsInside, IsInsideBut}
+use Rattle.drawing_check.specs.inner.Spans.{IsInside, IsInsideBut}
 use Rattle.drawing_check.specs.Points.{IsLeastPoint}
-use Rattle.drawing_check.specs.CommonEnds.{IsOnlyCommonEnd}
+use Rattle.drawing_check.specs.inner.CommonEnds.{IsOnlyCommonEnd}
 use Rattle.drawing_check.specs.declared.meeting.Meeting.{Meeting}
-use Rattle.drawing_check.specs.Meetings.{Meets, IsApart, IsPairBefore, IsFirstMeeting}
-use Rattle.drawing_check.specs.Collisions.{IsOn, IsCovered, IsAllowed, Collides}
-use Rattle.drawing_check.specs.Partners.{IsFirstPartner}
+use Rattle.drawing_check.specs.Meetings.{Meets, IsPairBefore, IsFirstMeeting}
+use Rattle.drawing_check.specs.inner.Partners.{IsApart, IsFirstPartner}
+use Rattle.drawing_check.specs.inner.Collisions.{IsOn, IsCovered, IsAllowed, Collides}
 
 module _ (points : List Point) (p q : Covered) (shared : Extent)
     (first : IsCovered points p) (second : IsCovered points q)
@@ -129,6 +129,9 @@ one_more_apart plan places n m next before here = record { apart = λ p q less a
         let same : n ≡ p = omega arith in
         subst (λ (k : ℕ). IsApart plan places k q) same (here q (omega arith) inside)
 
+-- what the search for the first meeting rests on
+pub ruleset first_of_meetings = (none_apart, one_more_apart, first_from_partner)
+
 -- what the pieces i and j may share does not depend on which is named first
 pub may_share_turned : (plan : Plan) (places : Places) (i j : ℕ) (z : Point) → MayShare plan places i j z → MayShare plan places j i z
 may_share_turned plan places i j z may =
@@ -138,20 +141,20 @@ may_share_turned plan places i j z may =
     turned p q (inl same) = inl (sym same.0, sym same.1)
     turned p q (inr same) = inr (sym same.1, sym same.0)
 
--- where each piece is apart from those after it, nothing crosses
-pub crossing_free_from_apart : (plan : Plan) (places : Places) → ((p q : ℕ) → p < q → q < length plan.pieces → IsApart plan places p q) → IsCrossingFree plan places
-crossing_free_from_apart plan places apart i j first second differ z on_first on_second = by_order (cases_lt i j)
+-- where each piece is apart from those after it, pieces meet only at their ends
+pub meetings_from_apart : (plan : Plan) (places : Places) → ((p q : ℕ) → p < q → q < length plan.pieces → IsApart plan places p q) → MeetOnlyAtEnds plan places
+meetings_from_apart plan places apart i j first second differ z on_first on_second = by_order (cases_lt i j)
   where
     by_order : (i < j) ⊎ (j ≤ i) → MayShare plan places i j z
     by_order (inl less) = apart i j less second z on_first on_second
     by_order (inr more) = may_share_turned plan places j i z (apart j i (omega arith) first z on_second on_first)
 
--- a drawing has no meeting
-pub no_meeting_in_drawing : (shape : Shape) (places : Places) (p q : ℕ) (z : Point) → IsDrawing shape places → IsFirstMeeting shape.plan places p q z → ⊥
-no_meeting_in_drawing shape places p q z drawing meeting =
+-- where nothing crosses there is no meeting
+pub no_meeting_without_crossing : (shape : Shape) (places : Places) (p q : ℕ) (z : Point) → IsCrossingFree shape places → IsFirstMeeting shape.plan places p q z → ⊥
+no_meeting_without_crossing shape places p q z free meeting =
     let inside : p < length shape.plan.pieces = omega (arith, meeting.in_order, meeting.in_plan) in
     let differ : p ≡ q → ⊥ = omega (arith, meeting.in_order) in
-    no_meeting shape.plan places p q (drawing.crossing_free p q inside meeting.in_plan differ) z meeting.least.0
+    no_meeting shape.plan places p q (free.meetings p q inside meeting.in_plan differ) z meeting.least.0
 
 -- where all pieces have their ways, the places are a drawing exactly where no meeting is found
 pub drawing_decided : (shape : Shape) (places : Places) (found : Option Meeting) (none : Bool) → is_some found ≡ not none →
@@ -161,8 +164,8 @@ pub drawing_decided : (shape : Shape) (places : Places) (found : Option Meeting)
     HasWays shape places → length places.xy ≡ shape.plan.vertices →
     (IsTrue none → IsDrawing shape places) × (IsDrawing shape places → IsTrue none)
 drawing_decided shape places None true is apart ways fit =
-    (λ yes. record { places_fit = fit; ways = ways; crossing_free = crossing_free_from_apart shape.plan places apart }, λ drawing. refl)
+    (λ yes. record { crossing_free = record { places_fit = fit; ways = ways; meetings = meetings_from_apart shape.plan places apart } }, λ drawing. refl)
 drawing_decided shape places None false is apart ways fit = absurd (let e : false ≡ true = is in cc)
 drawing_decided shape places (Some m) true is meeting ways fit = absurd (let e : true ≡ false = is in cc)
 drawing_decided shape places (Some m) false is meeting ways fit =
-    (λ no. absurd (let e : false ≡ true = no in cc), λ drawing. absurd (no_meeting_in_drawing shape places m.first m.second m.point drawing meeting))
+    (λ no. absurd (let e : false ≡ true = no in cc), λ drawing. absurd (no_meeting_without_crossing shape places m.first m.second m.point drawing.crossing_free meeting))

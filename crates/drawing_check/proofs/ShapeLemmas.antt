@@ -1,72 +1,35 @@
 -- A plan and its places have one shape, or one first fault, and not both.
-use Rattle.std.proofs.Common.{◌≡◌, ℕ, ◌<◌, ℤ, List, length, Result, Ok, Err, inl, inr, subst, sym, ap, ◌∙◌, arith, IfOk}
+use Rattle.std.proofs.Common.{◌≡◌, ℕ, ◌<◌, ℤ, List, length, inl, inr, subst, sym, ap, ◌∙◌, arith}
 use Rattle.std.proofs.lemmas.Int.{ints, by_lt_z}
-use Rattle.std.proofs.Props.{props}
 use Rattle.std.proofs.lemmas.List.{ext_get_or}
 use Rattle.compact_types.specs.declared.places.Point.{Point}
 use Rattle.compact_types.specs.declared.places.Places.{Places}
-use Rattle.compact_types.specs.declared.plan.Piece.{Piece}
 use Rattle.compact_types.specs.declared.plan.Plan.{Plan}
 use Rattle.compact_types.specs.declared.plan.Shape.{Shape}
 use Rattle.compact_types.specs.declared.plan.Way.{Way}
 use Rattle.compact_types.specs.declared.plan.Way.TheVariants.{East}
-use Rattle.compact_types.specs.declared.refusal.Refusal.{Refusal}
-use Rattle.compact_types.specs.declared.refusal.Refusal.TheVariants.{Fault, NoMemory}
-use Rattle.compact_types.specs.Lookups.{way_at, EndsAreVertices}
-use Rattle.compact_types.specs.Refusals.{Gives, IfFault}
+use Rattle.compact_types.specs.Lookups.{way_at}
 use Rattle.compact_types.specs.Ways.{HasWay}
-use Rattle.compact_types.specs.Drawings.{begin_of, end_of, IsCrossingFree}
+use Rattle.compact_types.specs.Drawings.{begin_of, end_of, MeetOnlyAtEnds}
 use Rattle.compact_types.specs.Connected.{IsConnected}
-use Rattle.compact_types.proofs.AxisLemmas.{one_way}
+use Rattle.compact_types.proofs.Laws.{one_way, shape_of, same_shape, same_point}
 use Rattle.drawing_check.specs.declared.fault.ShapeFault.{ShapeFault}
 use Rattle.drawing_check.specs.declared.fault.ShapeFault.TheVariants.{ZeroPiece, Slanted, Disconnected, Meeting}
-use Rattle.drawing_check.specs.Courses.{HasNoLength, IsSlanted, AllHaveWays, AreWays}
+use Rattle.drawing_check.specs.Courses.{HasNoLength, IsSlanted, AllHaveWays}
+use Rattle.drawing_check.specs.inner.PieceWays.{AreWays}
 use Rattle.drawing_check.specs.Points.{IsPointBefore, IsLeastPoint}
-use Rattle.drawing_check.specs.Meetings.{Meets, IsApart, IsFirstMeeting}
+use Rattle.drawing_check.specs.Meetings.{Meets, IsFirstMeeting}
+use Rattle.drawing_check.specs.inner.Partners.{IsApart}
 use Rattle.drawing_check.specs.Faults.{IsFirst, IsFirstApart, FirstShapeFault}
 use Rattle.drawing_check.specs.Shapes.{IsShapeOf}
-use Rattle.drawing_check.proofs.SpanLemmas.{same_point}
 use Rattle.drawing_check.proofs.WayLemmas.{way_apart, way_not_slanted}
-use Rattle.drawing_check.proofs.MeetingLemmas.{no_meeting_in_drawing, crossing_free_from_apart}
-
--- a plan and a shape of their parts
-abbrev pub plan_of : (v : ℕ) (l : List Piece) → EndsAreVertices v l → Plan
-plan_of v l ends = record { vertices = v; pieces = l; ends = ends }
-
-abbrev pub shape_of : (p : Plan) (w : List Way) → length w ≡ length p.pieces → Shape
-shape_of p w one_for_each = record { plan = p; ways = w; one_for_each = one_for_each }
-
--- two plans with the same vertices and pieces
-pub same_plan : (p q : Plan) → p.vertices ≡ q.vertices → p.pieces ≡ q.pieces → p ≡ q
-same_plan p q vertices pieces = at_pieces p.vertices q.vertices vertices p.pieces q.pieces pieces p.ends q.ends
-  where
-    at_ends : (v : ℕ) (l : List Piece) (e f : EndsAreVertices v l) → plan_of v l e ≡ plan_of v l f
-    at_ends v l e f = let proof : IsProp (EndsAreVertices v l) = hlevel props in ap (plan_of v l) (proof e f)
-
-    at_vertices : (v w : ℕ) → v ≡ w → (l : List Piece) (e : EndsAreVertices v l) (f : EndsAreVertices w l) → plan_of v l e ≡ plan_of w l f
-    at_vertices v w same l e = subst (λ (x : ℕ). (f : EndsAreVertices x l) → plan_of v l e ≡ plan_of x l f) same (at_ends v l e)
-
-    at_pieces : (v w : ℕ) → v ≡ w → (l m : List Piece) → l ≡ m → (e : EndsAreVertices v l) (f : EndsAreVertices w m) → plan_of v l e ≡ plan_of w m f
-    at_pieces v w same l m same_pieces e = subst (λ (x : List Piece). (f : EndsAreVertices w x) → plan_of v l e ≡ plan_of w x f) same_pieces (at_vertices v w same l e)
-
--- two shapes with the same plan and ways
-pub same_shape : (p q : Shape) → p.plan ≡ q.plan → p.ways ≡ q.ways → p ≡ q
-same_shape p q plan ways = at_ways p.plan q.plan plan p.ways q.ways ways p.one_for_each q.one_for_each
-  where
-    at_fit : (r : Plan) (w : List Way) (e f : length w ≡ length r.pieces) → shape_of r w e ≡ shape_of r w f
-    at_fit r w e f = let proof : IsProp (length w ≡ length r.pieces) = hlevel props in ap (shape_of r w) (proof e f)
-
-    at_plan : (r s : Plan) → r ≡ s → (w : List Way) (e : length w ≡ length r.pieces) (f : length w ≡ length s.pieces) → shape_of r w e ≡ shape_of s w f
-    at_plan r s same w e = subst (λ (x : Plan). (f : length w ≡ length x.pieces) → shape_of r w e ≡ shape_of x w f) same (at_fit r w e)
-
-    at_ways : (r s : Plan) → r ≡ s → (v w : List Way) → v ≡ w → (e : length v ≡ length r.pieces) (f : length w ≡ length s.pieces) → shape_of r v e ≡ shape_of s w f
-    at_ways r s same v w same_ways e = subst (λ (x : List Way). (f : length x ≡ length s.pieces) → shape_of r v e ≡ shape_of s x f) same_ways (at_plan r s same v e)
+use Rattle.drawing_check.proofs.MeetingLemmas.{no_meeting_without_crossing, meetings_from_apart}
 
 -- the ways of a shape, over the plan that it stands for
 pub ways_over : (plan : Plan) (places : Places) (shape : Shape) → IsShapeOf plan places shape →
     (i : ℕ) → i < length plan.pieces → HasWay (way_at shape.ways i) (begin_of plan places i) (end_of plan places i)
 ways_over plan places shape is =
-    subst (λ (r : Plan). (i : ℕ) → i < length r.pieces → HasWay (way_at shape.ways i) (begin_of r places i) (end_of r places i)) is.same_plan is.drawing.ways
+    subst (λ (r : Plan). (i : ℕ) → i < length r.pieces → HasWay (way_at shape.ways i) (begin_of r places i) (end_of r places i)) is.same_plan is.crossing_free.ways
 
 -- places give a plan one shape at most
 pub one_shape : (plan : Plan) (places : Places) (p q : Shape) → IsShapeOf plan places p → IsShapeOf plan places q → p ≡ q
@@ -156,21 +119,8 @@ no_fault_of_shape plan places shape (ZeroPiece p) is first = length_from_ways pl
 no_fault_of_shape plan places shape (Slanted p) is first = straight_from_ways plan places (ways_in_shape plan places shape is) p first.1.0 first.1.1
 no_fault_of_shape plan places shape (Disconnected v) is first = first.1.1 (is.connected v first.1.0)
 no_fault_of_shape plan places shape (Meeting p q x y) is first =
-    no_meeting_in_drawing shape places p q (record { x = x; y = y }) is.drawing
+    no_meeting_without_crossing shape places p q (record { x = x; y = y }) is.crossing_free
     (subst (λ (r : Plan). IsFirstMeeting r places p q (record { x = x; y = y })) (sym is.same_plan) first.2)
-
--- an answer that is right is the only right one
-pub the_shape : (plan : Plan) (places : Places) (answer : Result Shape (Refusal ShapeFault)) → IfOk answer (IsShapeOf plan places) → IfFault answer (FirstShapeFault plan places) →
-    (shape : Shape) → IsShapeOf plan places shape → Gives answer (Ok shape)
-the_shape plan places (Ok answer) right wrong shape is = ap Ok (one_shape plan places shape answer is right)
-the_shape plan places (Err (Fault fault)) right wrong shape is = absurd (no_fault_of_shape plan places shape fault is wrong)
-the_shape plan places (Err NoMemory) right wrong shape is = tt
-
-pub the_fault : (plan : Plan) (places : Places) (answer : Result Shape (Refusal ShapeFault)) → IfOk answer (IsShapeOf plan places) → IfFault answer (FirstShapeFault plan places) →
-    (fault : ShapeFault) → FirstShapeFault plan places fault → Gives answer (Err fault)
-the_fault plan places (Ok answer) right wrong fault first = absurd (no_fault_of_shape plan places answer fault right first)
-the_fault plan places (Err (Fault answer)) right wrong fault first = ap Err (one_fault plan places fault answer first wrong)
-the_fault plan places (Err NoMemory) right wrong fault first = tt
 
 -- the ways that were found
 pub ways_found : (plan : Plan) (places : Places) (ways : List Way) → AreWays plan places ways → AllHaveWays plan places
@@ -183,9 +133,9 @@ pub shape_from_parts : (plan : Plan) (places : Places) (copy : Plan) (ways : Lis
 shape_from_parts plan places copy ways fits same are connected apart places_fit = record {
   same_plan = same;
   connected = connected;
-  drawing = record {
+  crossing_free = record {
     places_fit = subst (λ (r : Plan). length places.xy ≡ r.vertices) (sym same) places_fit;
     ways = subst (λ (r : Plan). (i : ℕ) → i < length r.pieces → HasWay (way_at ways i) (begin_of r places i) (end_of r places i)) (sym same) are.each;
-    crossing_free = subst (λ (r : Plan). IsCrossingFree r places) (sym same) (crossing_free_from_apart plan places apart);
+    meetings = subst (λ (r : Plan). MeetOnlyAtEnds r places) (sym same) (meetings_from_apart plan places apart);
   };
 }

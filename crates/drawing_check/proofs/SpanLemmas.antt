@@ -4,15 +4,10 @@ use Rattle.std.proofs.lemmas.Int.{ints}
 use Rattle.std.proofs.lemmas.Bool.{and_parts}
 use Rattle.std.proofs.lemmas.Bool.Decides.{Decides-int_eq}
 use Rattle.compact_types.specs.declared.places.Point.{Point}
+use Rattle.compact_types.proofs.Laws.{same_point}
 use Rattle.drawing_check.specs.declared.span.Extent.{Extent}
-use Rattle.drawing_check.specs.Spans.{IsInside, IsInsideBut}
+use Rattle.drawing_check.specs.inner.Spans.{IsInside, IsInsideBut}
 use Rattle.drawing_check.specs.Points.{IsPointBefore, IsLeastPoint}
-
--- two points with the same coordinates
-pub same_point : (a b : Point) → a.x ≡ b.x → a.y ≡ b.y → a ≡ b
-same_point a b across along =
-    let moved : a ≡ record { x = b.x; y = a.y } = ap (λ (x : ℤ). let p : Point = record { x = x; y = a.y } in p) across in
-    moved ∙ ap (λ (y : ℤ). let p : Point = record { x = b.x; y = y } in p) along
 
 -- the coordinates of a point that is there
 abbrev x_of : Option Point → ℤ

@@ -5,22 +5,13 @@ use Rattle.std.proofs.lemmas.Bool.{cases_lt}
 use Rattle.std.proofs.lemmas.List.{length_push, get_or_push, get_or_append_left}
 use Rattle.compact_types.specs.declared.places.Point.{Point}
 use Rattle.compact_types.specs.declared.places.Places.{Places}
-use Rattle.compact_types.specs.declared.plan.Piece.{Piece}
 use Rattle.compact_types.specs.declared.plan.Plan.{Plan}
 use Rattle.compact_types.specs.declared.plan.Way.{Way}
 use Rattle.compact_types.specs.declared.plan.Way.TheVariants.{East, West, High, Low}
-use Rattle.compact_types.specs.Lookups.{place, piece_at, way_at}
+use Rattle.compact_types.specs.Lookups.{way_at}
 use Rattle.compact_types.specs.Ways.{HasWay}
 use Rattle.compact_types.specs.Drawings.{begin_of, end_of}
-use Rattle.drawing_check.proofs.SpanLemmas.{same_point}
-
--- what holds of the points that the code read holds of the ends of the piece
-pub read_ends : (plan : Plan) (places : Places) (pieces : List Piece) (points : List Point) → pieces ≡ plan.pieces → points ≡ places.xy →
-    (P : Point → Point → Type 0) (i : ℕ) → P (place points (piece_at pieces i).from) (place points (piece_at pieces i).to) →
-    P (begin_of plan places i) (end_of plan places i)
-read_ends plan places pieces points same_pieces same_points P i read =
-    let moved = subst (λ (l : List Piece). P (place points (piece_at l i).from) (place points (piece_at l i).to)) same_pieces read in
-    subst (λ (l : List Point). P (place l (piece_at plan.pieces i).from) (place l (piece_at plan.pieces i).to)) same_points moved
+use Rattle.compact_types.proofs.Laws.{same_point}
 
 -- both coordinates of two points differ
 abbrev pub AreSlanted : Point → Point → Type 0

@@ -1,9 +1,8 @@
 -- How pieces run between the places of their ends.
-use Rattle.std.specs.Prelude.{◌≡◌, ℕ, ◌<◌, List, length}
+use Rattle.std.specs.Prelude.{◌≡◌, ℕ, ◌<◌, length}
 use Rattle.compact_types.specs.declared.places.Places.{Places}
 use Rattle.compact_types.specs.declared.plan.Plan.{Plan}
 use Rattle.compact_types.specs.declared.plan.Way.{Way}
-use Rattle.compact_types.specs.Lookups.{way_at}
 use Rattle.compact_types.specs.Ways.{HasWay}
 use Rattle.compact_types.specs.Drawings.{begin_of, end_of}
 
@@ -14,14 +13,10 @@ HasNoLength plan places i = begin_of plan places i ≡ end_of plan places i
 -- both coordinates of the ends of piece i differ
 abbrev pub IsSlanted : Plan → Places → ℕ → Type 0
 IsSlanted plan places i =
-    ((begin_of plan places i).x ≡ (end_of plan places i).x → ⊥) × ((begin_of plan places i).y ≡ (end_of plan places i).y → ⊥)
+    ((begin_of plan places i).x ≡ (end_of plan places i).x → ⊥)
+    × ((begin_of plan places i).y ≡ (end_of plan places i).y → ⊥)
 
 -- every piece has a way
 abbrev pub AllHaveWays : Plan → Places → Type 0
 AllHaveWays plan places =
     (i : ℕ) → i < length plan.pieces → (way : Way) × HasWay way (begin_of plan places i) (end_of plan places i)
-
--- these are the ways of the pieces, one for each
-pub record AreWays (plan : Plan) (places : Places) (ways : List Way) : Type 0 where
-  pub one_for_each : length ways ≡ length plan.pieces
-  pub each : (i : ℕ) → i < length plan.pieces → HasWay (way_at ways i) (begin_of plan places i) (end_of plan places i)

@@ -4,8 +4,4 @@ pub mod Points
 pub mod Meetings
 pub mod Faults
 pub mod Shapes
-pub mod Spans
-pub mod CommonEnds
-pub mod Collisions
-pub mod Partners
-pub mod Groups
+pub mod inner

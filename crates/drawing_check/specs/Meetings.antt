@@ -12,10 +12,6 @@ pub record Meets (plan : Plan) (places : Places) (i j : ℕ) (z : Point) : Type 
   pub on_second : OnPiece plan places j z
   pub forbidden : MayShare plan places i j z → ⊥
 
--- the pieces i and j share no point that they may not share
-abbrev pub IsApart : Plan → Places → ℕ → ℕ → Type 0
-IsApart plan places i j = (z : Point) → OnPiece plan places i z → OnPiece plan places j z → MayShare plan places i j z
-
 -- the pair i, j comes before the pair p, q in the order of the list
 abbrev pub IsPairBefore : ℕ → ℕ → ℕ → ℕ → Type 0
 IsPairBefore i j p q = (i < p) ⊎ ((i ≡ p) × (j < q))
@@ -25,4 +21,5 @@ pub record IsFirstMeeting (plan : Plan) (places : Places) (p q : ℕ) (z : Point
   pub in_order : p < q
   pub in_plan : q < length plan.pieces
   pub least : IsLeastPoint (Meets plan places p q) z
-  pub first : (i j : ℕ) → i < j → j < length plan.pieces → IsPairBefore i j p q → (w : Point) → Meets plan places i j w → ⊥
+  pub first : (i j : ℕ) → i < j → j < length plan.pieces → IsPairBefore i j p q →
+      (w : Point) → Meets plan places i j w → ⊥

@@ -1,7 +1,8 @@
-ghost use Rattle.std.specs.Prelude.{◌≡◌, Ok, Err, IfOk};
-ghost use Rattle.compact_types.specs.declared.plan.Shape.{Shape as AnyShape};
-ghost use Rattle.compact_types.specs.Refusals.{Gives, IfFault};
-ghost use Rattle.drawing_check.specs.declared.fault.ShapeFault.{ShapeFault as AnyFault};
+//! The shape of a plan in its places, or the first fault.
+
+ghost use Rattle.compact_types.specs.declared.places.Places.{Places as AnyPlaces};
+ghost use Rattle.compact_types.specs.declared.plan.Plan.{Plan as AnyPlan};
+ghost use Rattle.compact_types.specs.Refusals.{Decides, HasOneAnswer};
 ghost use Rattle.drawing_check.specs.Conditions.{CanCheck};
 ghost use Rattle.drawing_check.specs.Faults.{FirstShapeFault};
 ghost use Rattle.drawing_check.specs.Shapes.{IsShapeOf};
@@ -10,23 +11,17 @@ use crate::fault::ShapeFault;
 use crate::joined::first_apart;
 use crate::meeting::first_meeting;
 use crate::ways::{first_without_length, ways_of};
-use compact_types::places::Places;
-use compact_types::plan::{Plan, Shape};
-use compact_types::refusal::{NoMemory, Refusal};
+use compact_types::{Places, Plan, Refusal, Shape};
 use std::alloc::Global;
 
-/// The shape of the plan in these places: the way of each piece, where the plan is connected and the places are a
-/// drawing; otherwise the first fault. Coordinates are whole numbers of any unit.
+/// The shape of the plan in these places: the way of each piece, where the plan is connected and
+/// the places are crossing-free; otherwise the first fault. Coordinates are whole numbers of any
+/// unit.
 pub fn check(alloc: Global, plan: &Plan, places: &Places) -> Result<Shape, Refusal<ShapeFault>>
     requires { CanCheck plan.now places.now }
-
-    // A shape is answered only for a connected drawing, and a fault only where it is the first.
-    ensures shape { IfOk result (IsShapeOf plan.now places.now) }
-    ensures fault { IfFault result (FirstShapeFault plan.now places.now) }
-
-    // Where there is such a shape, or such a fault, it is the answer, unless memory is refused.
-    ensures only { (shape : AnyShape) → IsShapeOf plan.now places.now shape → Gives result (Ok shape) }
-    ensures first { (fault : AnyFault) → FirstShapeFault plan.now places.now fault → Gives result (Err fault) }
+    ensures decides { Decides result
+        (IsShapeOf plan.now places.now)
+        (FirstShapeFault plan.now places.now) }
 {
     if let Some(piece) = first_without_length(plan, places) {
         return Err(Refusal::Fault(ShapeFault::ZeroPiece(piece)));
@@ -38,20 +33,16 @@ pub fn check(alloc: Global, plan: &Plan, places: &Places) -> Result<Shape, Refus
     if let Some(meeting) = first_meeting(plan, places) {
         return Err(Refusal::Fault(meeting.into()));
     }
-    let plan = copy_of(plan)?;
+    let plan = plan.copy()?;
     Ok(Shape { plan, ways })
 }
 
-/// The same plan again.
-fn copy_of(plan: &Plan) -> Result<Plan, NoMemory>
-    ensures { IfOk result (λ copy. copy ≡ plan.now) }
-{
-    let pieces = plan.pieces.copy()?;
-    Ok(Plan {
-        vertices: plan.vertices,
-        pieces,
-    })
-}
+/// A plan and places that can be checked have exactly one shape and no first fault, or exactly one
+/// first fault and no shape.
+pub fn one_shape_or_fault()
+    ensures { (plan : AnyPlan) (places : AnyPlaces) → CanCheck plan places →
+        HasOneAnswer (IsShapeOf plan places) (FirstShapeFault plan places) }
+{}
 
 #[cfg(test)]
 mod tests;

@@ -1,22 +1,23 @@
+//! Where two pieces share a point that they may not share.
+
 ghost use Rattle.std.specs.Prelude.{◌≡◌, ◌<◌, length, MatchOption, ◌↔◌, Some};
 ghost use Rattle.compact_types.specs.declared.places.Point.{Point as AnyPoint};
 ghost use Rattle.drawing_check.specs.Points.{IsLeastPoint};
-ghost use Rattle.drawing_check.specs.Collisions.{IsOn, IsCovered, IsAllowed, Collides};
+ghost use Rattle.drawing_check.specs.inner.Collisions.{IsOn, IsCovered, IsAllowed, Collides};
 
 use crate::common_end::only_common_end;
 use crate::span::{Extent, common_extent, extent_between, is_empty, least_point};
-use compact_types::places::Point;
-use compact_types::plan::Piece;
+use compact_types::{Piece, Point};
 
 /// A piece, and the points between the places of its ends.
 #[derive(Clone, Copy, Debug)]
-pub struct Covered {
-    pub piece: Piece,
-    pub extent: Extent,
+pub(crate) struct Covered {
+    pub(crate) piece: Piece,
+    pub(crate) extent: Extent,
 }
 
 /// The piece with the points that it covers, where `points` are the places of the vertices.
-pub fn cover(points: &[Point], piece: Piece) -> Covered
+pub(crate) fn cover(points: &[Point], piece: Piece) -> Covered
     requires from { piece.from < length points.now }
     requires to { piece.to < length points.now }
     ensures piece { result.piece ≡ piece }
@@ -37,13 +38,14 @@ fn allowed_point(points: &[Point], p: Piece, q: Piece) -> Option<Point>
 }
 
 /// The least point that the two pieces share and may not share.
-pub fn collision(points: &[Point], p: Covered, q: Covered) -> Option<Point>
+pub(crate) fn collision(points: &[Point], p: Covered, q: Covered) -> Option<Point>
     requires from { p.piece.from < length points.now }
     requires to { p.piece.to < length points.now }
     requires first { IsCovered points.now p }
     requires second { IsCovered points.now q }
     ensures { MatchOption result
-        ((z : AnyPoint) → IsOn points.now p.piece z → IsOn points.now q.piece z → IsAllowed points.now p.piece q.piece z)
+        ((z : AnyPoint) → IsOn points.now p.piece z → IsOn points.now q.piece z →
+        IsAllowed points.now p.piece q.piece z)
         (IsLeastPoint (Collides points.now p.piece q.piece)) }
 {
     let shared = common_extent(p.extent, q.extent);

@@ -1,24 +1,26 @@
+//! The first two pieces that meet where they may not.
+
 ghost use Rattle.std.specs.Prelude.{◌≡◌, ℕ, ◌<◌, length, MatchOption};
 ghost use Rattle.drawing_check.specs.Conditions.{CanCheck};
-ghost use Rattle.drawing_check.specs.Meetings.{IsApart, IsFirstMeeting};
+ghost use Rattle.drawing_check.specs.Meetings.{IsFirstMeeting};
+ghost use Rattle.drawing_check.specs.inner.Partners.{IsApart, IsFirstPartner};
 ghost use Rattle.drawing_check.specs.declared.fault.ShapeFault.TheVariants as shape_fault;
-ghost use Rattle.drawing_check.specs.Partners.{IsFirstPartner};
 
 use crate::covered::{collision, cover};
 use crate::fault::ShapeFault;
-use compact_types::places::{Places, Point};
-use compact_types::plan::Plan;
+use compact_types::{Places, Plan, Point};
 
 /// Two pieces, the first of the lesser number, and a point where they meet.
 #[derive(Clone, Copy, Debug)]
-pub struct Meeting {
-    pub first: u32,
-    pub second: u32,
-    pub point: Point,
+pub(crate) struct Meeting {
+    pub(crate) first: u32,
+    pub(crate) second: u32,
+    pub(crate) point: Point,
 }
 
 impl From<Meeting> for ShapeFault {
-    ghost from_gives = { λ meeting fault. fault ≡ shape_fault.Meeting meeting.first meeting.second meeting.point.x meeting.point.y };
+    ghost from_gives = { λ meeting fault.
+        fault ≡ shape_fault.Meeting meeting.first meeting.second meeting.point.x meeting.point.y };
 
     fn from(meeting: Meeting) -> ShapeFault {
         ShapeFault::Meeting {
@@ -30,10 +32,10 @@ impl From<Meeting> for ShapeFault {
     }
 }
 
-/// The first two pieces, by the number of the first and then of the second, that share a point which they may not
-/// share, and the least such point, by x and then y.
-#[tactic(auto, using(crate::proofs::MeetingLemmas::none_apart, crate::proofs::MeetingLemmas::one_more_apart, crate::proofs::MeetingLemmas::first_from_partner))]
-pub fn first_meeting(plan: &Plan, places: &Places) -> Option<Meeting>
+/// The first two pieces, by the number of the first and then of the second, that share a point
+/// which they may not share, and the least such point, by x and then y.
+#[tactic(auto, using(crate::proofs::MeetingLemmas::first_of_meetings))]
+pub(crate) fn first_meeting(plan: &Plan, places: &Places) -> Option<Meeting>
     requires { CanCheck plan.now places.now }
     ensures { MatchOption result
         ((p q : ℕ) → p < q → q < length plan.now.pieces → IsApart plan.now places.now p q)

@@ -1,23 +1,25 @@
+//! Runs of numbers along each axis, and the least point in two of them.
+
 ghost use Rattle.std.specs.Prelude.{◌≡◌, ◌↔◌, ℤ, MatchBool, MatchOption, Some, ◌≤ℤ◌};
 ghost use Rattle.compact_types.specs.declared.places.Point.{Point as AnyPoint};
 ghost use Rattle.compact_types.specs.Segments.{IsBetween, OnSegment};
-ghost use Rattle.drawing_check.specs.Spans.{IsIn, IsInside, IsInsideBut};
+ghost use Rattle.drawing_check.specs.inner.Spans.{IsIn, IsInside, IsInsideBut};
 ghost use Rattle.drawing_check.specs.Points.{IsLeastPoint};
 
-use compact_types::places::Point;
+use compact_types::Point;
 
 /// The numbers from `low` to `high`; none where `high` is less.
 #[derive(Clone, Copy, Debug)]
-pub struct Span {
-    pub low: i64,
-    pub high: i64,
+pub(crate) struct Span {
+    pub(crate) low: i64,
+    pub(crate) high: i64,
 }
 
 /// The points with an `x` and a `y` in these spans.
 #[derive(Clone, Copy, Debug)]
-pub struct Extent {
-    pub x: Span,
-    pub y: Span,
+pub(crate) struct Extent {
+    pub(crate) x: Span,
+    pub(crate) y: Span,
 }
 
 /// The numbers from `a` to `b`, whichever of the two is less.
@@ -42,7 +44,7 @@ fn common_span(a: Span, b: Span) -> Span
 }
 
 /// The points of the closed segment between `a` and `b`.
-pub fn extent_between(a: Point, b: Point) -> Extent
+pub(crate) fn extent_between(a: Point, b: Point) -> Extent
     ensures { (z : AnyPoint) → OnSegment a b z ↔ IsInside result z }
 {
     Extent {
@@ -52,7 +54,7 @@ pub fn extent_between(a: Point, b: Point) -> Extent
 }
 
 /// The points of both extents.
-pub fn common_extent(a: Extent, b: Extent) -> Extent
+pub(crate) fn common_extent(a: Extent, b: Extent) -> Extent
     ensures { (z : AnyPoint) → (IsInside a z × IsInside b z) ↔ IsInside result z }
 {
     Extent {
@@ -62,7 +64,7 @@ pub fn common_extent(a: Extent, b: Extent) -> Extent
 }
 
 /// Whether no point is inside.
-pub fn is_empty(extent: Extent) -> bool
+pub(crate) fn is_empty(extent: Extent) -> bool
     ensures { MatchBool result
         ((z : AnyPoint) → IsInside extent z → ⊥)
         ((extent.x.low ≤ℤ extent.x.high) × (extent.y.low ≤ℤ extent.y.high)) }
@@ -71,7 +73,7 @@ pub fn is_empty(extent: Extent) -> bool
 }
 
 /// The least point inside, by x and then y, other than `except`.
-pub fn least_point(extent: Extent, except: Option<Point>) -> Option<Point>
+pub(crate) fn least_point(extent: Extent, except: Option<Point>) -> Option<Point>
     requires x { extent.x.low ≤ℤ extent.x.high }
     requires y { extent.y.low ≤ℤ extent.y.high }
     ensures { MatchOption result

@@ -1,17 +1,17 @@
-ghost use Rattle.std.specs.Prelude.{◌≡◌, ◌↔◌, ℕ, ◌<◌, length, IfOk, IsTrue, MatchOption};
+//! Which way each piece goes.
+
+ghost use Rattle.std.specs.Prelude.{◌↔◌, ℕ, ◌<◌, length, IfOk, IsTrue, MatchOption};
 ghost use Rattle.compact_types.specs.declared.plan.Way.{Way as AnyWay};
 ghost use Rattle.compact_types.specs.Drawings.{HasWays};
 ghost use Rattle.compact_types.specs.Refusals.{IfFault};
 ghost use Rattle.compact_types.specs.Ways.{HasWay};
 ghost use Rattle.drawing_check.specs.Conditions.{CanCheck};
-ghost use Rattle.drawing_check.specs.Courses.{HasNoLength, AreWays};
+ghost use Rattle.drawing_check.specs.Courses.{HasNoLength};
+ghost use Rattle.drawing_check.specs.inner.PieceWays.{AreWays};
 ghost use Rattle.drawing_check.specs.Faults.{IsFirst, FirstShapeFault};
 
 use crate::fault::ShapeFault;
-use compact_types::items::Items;
-use compact_types::places::{Places, Point};
-use compact_types::plan::{Plan, Shape, Way};
-use compact_types::refusal::Refusal;
+use compact_types::{Items, Places, Plan, Point, Refusal, Shape, Way};
 use std::alloc::Global;
 
 /// Whether a piece from `a` to `b` goes this way.
@@ -44,7 +44,7 @@ fn way_between(a: Point, b: Point) -> Option<Way>
 }
 
 /// Whether every piece of the shape has its way in these places.
-pub fn has_ways(shape: &Shape, places: &Places) -> bool
+pub(crate) fn has_ways(shape: &Shape, places: &Places) -> bool
     requires { CanCheck shape.now.plan places.now }
     ensures { IsTrue result ↔ HasWays shape.now places.now }
 {
@@ -65,7 +65,7 @@ pub fn has_ways(shape: &Shape, places: &Places) -> bool
 }
 
 /// The first piece whose ends have the same point.
-pub fn first_without_length(plan: &Plan, places: &Places) -> Option<u32>
+pub(crate) fn first_without_length(plan: &Plan, places: &Places) -> Option<u32>
     requires { CanCheck plan.now places.now }
     ensures { MatchOption result
         ((i : ℕ) → i < length plan.now.pieces → HasNoLength plan.now places.now i → ⊥)
@@ -83,13 +83,14 @@ pub fn first_without_length(plan: &Plan, places: &Places) -> Option<u32>
 }
 
 /// The way of each piece, or the first piece that has none, where every piece has a length.
-pub fn ways_of(
+pub(crate) fn ways_of(
     alloc: Global,
     plan: &Plan,
     places: &Places,
 ) -> Result<Items<Way>, Refusal<ShapeFault>>
     requires can_check { CanCheck plan.now places.now }
-    requires lengths { (i : ℕ) → i < length plan.now.pieces → HasNoLength plan.now places.now i → ⊥ }
+    requires lengths { (i : ℕ) → i < length plan.now.pieces →
+        HasNoLength plan.now places.now i → ⊥ }
     ensures ways { IfOk result (AreWays plan.now places.now) }
     ensures fault { IfFault result (FirstShapeFault plan.now places.now) }
 {

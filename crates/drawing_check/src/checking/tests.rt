@@ -1,19 +1,19 @@
-ghost use Rattle.std.specs.Prelude.{◌≡◌, ◌≤◌, ◌<◌, ℕ, length, IfOk, IfSome};
-ghost use Rattle.compact_types.specs.Lookups.{place};
-ghost use Rattle.drawing_check.specs.Conditions.{IsWithinReach};
+//! Plans and places, and what the check answers.
+
+ghost use Rattle.std.specs.Prelude.{◌≡◌, IfOk, IfSome};
+ghost use Rattle.compact_types.specs.Magnitudes.{AreWithin};
 
 use super::check;
 use crate::drawing::is_drawing;
 use crate::fault::ShapeFault;
-use compact_types::items::Items;
-use compact_types::places::{Places, Point};
-use compact_types::plan::{Piece, Plan};
-use compact_types::refusal::{NoMemory, Refusal};
+use compact_types::{
+    GREATEST_THOUSANDTHS, Items, MOST_PIECES, NoMemory, Piece, Places, Plan, Point, Refusal,
+};
 use std::alloc::Global;
 use std::process::Abort;
 use std::test::Fail;
 
-const REACH: i64 = 10_000_000_000_000;
+const REACH: i64 = GREATEST_THOUSANDTHS as i64;
 
 /// The plan with these pieces; `None` where an end of one is no vertex.
 fn plan_of(alloc: Global, vertices: u32, ends: &[(u32, u32)]) -> Result<Option<Plan>, NoMemory>
@@ -31,8 +31,7 @@ fn plan_of(alloc: Global, vertices: u32, ends: &[(u32, u32)]) -> Result<Option<P
 
 /// The places with these coordinates; `None` where one is too far out to be checked.
 fn places_of(alloc: Global, coordinates: &[(i64, i64)]) -> Result<Option<Places>, NoMemory>
-    ensures { IfOk result (λ made. IfSome made (λ places.
-        (v : ℕ) → v < length places.xy → IsWithinReach (place places.xy v).x × IsWithinReach (place places.xy v).y)) }
+    ensures { IfOk result (λ made. IfSome made (AreWithin GREATEST_THOUSANDTHS)) }
 {
     let mut xy = Items::new(alloc);
     for &(x, y) in coordinates {
@@ -44,8 +43,8 @@ fn places_of(alloc: Global, coordinates: &[(i64, i64)]) -> Result<Option<Places>
     Ok(Some(Places { xy }))
 }
 
-/// Whether the answer is a shape that has these places as a drawing, or else the fault; `None` where nothing can be
-/// checked.
+/// Whether the answer is a shape that has these places as a drawing, or else the fault; `None`
+/// where nothing can be checked.
 fn answer(
     alloc: Global,
     coordinates: &[(i64, i64)],
@@ -60,7 +59,7 @@ fn answer(
     let Some(places) = places_of(alloc, coordinates)? else {
         return Ok(None);
     };
-    if vertices == 0 || places.xy.len() != vertices as usize || plan.pieces.len() > 6000 {
+    if vertices == 0 || places.xy.len() != vertices as usize || plan.pieces.len() > MOST_PIECES {
         return Ok(None);
     }
     match check(alloc, &plan, &places) {

@@ -1,5 +1,5 @@
 use Rattle.std.proofs.Common.{ℕ, List, subst, sym}
-use Rattle.drawing_check.specs.Groups.{AreGroups}
+use Rattle.drawing_check.specs.inner.Groups.{AreGroups}
 use Rattle.drawing_check.proofs.GroupLemmas.{single, connected_or_apart}
 use Rattle.drawing_check.proofs.joined.first_apart.Goals as goal
 

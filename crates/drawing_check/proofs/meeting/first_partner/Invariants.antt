@@ -1,5 +1,5 @@
 use Rattle.std.proofs.Common.{ℕ, ◌<◌}
-use Rattle.drawing_check.specs.Meetings.{IsApart}
+use Rattle.drawing_check.specs.inner.Partners.{IsApart}
 use Rattle.drawing_check.proofs.meeting.first_partner.Given as goal
 
 abbrev pub invariant-loop-second : goal.invariant-loop-second

@@ -1,7 +1,9 @@
 use Rattle.std.proofs.Common.{ℕ, ◌<◌, length}
-use Rattle.compact_types.specs.Lookups.{place}
-use Rattle.drawing_check.specs.Conditions.{IsWithinReach}
+use Rattle.compact_types.specs.declared.places.Axis.{Axis}
+use Rattle.compact_types.specs.Lookups.{place, along}
+use Rattle.compact_types.specs.Magnitudes.{IsWithin}
 use Rattle.drawing_check.proofs.checking.tests.places_of.Given as goal
 
 abbrev pub invariant-loop-x : goal.invariant-loop-x
-invariant-loop-x l = (v : ℕ) → v < length l.xy → IsWithinReach (place l.xy v).x × IsWithinReach (place l.xy v).y
+invariant-loop-x l =
+    (axis : Axis) (v : ℕ) → v < length l.xy → IsWithin 10000000000000 (along axis (place l.xy v))

@@ -5,7 +5,7 @@ use Rattle.compact_types.specs.declared.plan.Piece.{Piece}
 use Rattle.compact_types.specs.Lookups.{place, IsEnd, HaveSameEnds}
 use Rattle.compact_types.specs.Segments.{OnSegment}
 use Rattle.drawing_check.specs.declared.covered.Covered.{Covered}
-use Rattle.drawing_check.specs.Spans.{IsInside}
+use Rattle.drawing_check.specs.inner.Spans.{IsInside}
 
 -- the point lies on the piece, where its ends have these places
 abbrev pub IsOn : List Point → Piece → Point → Type 0

@@ -1,10 +1,17 @@
--- The first piece that meets a given one.
+-- Pieces that do not meet, and the first piece that meets a given one.
 use Rattle.std.specs.Prelude.{◌≡◌, ℕ, ◌<◌, length}
 use Rattle.compact_types.specs.declared.places.Places.{Places}
+use Rattle.compact_types.specs.declared.places.Point.{Point}
 use Rattle.compact_types.specs.declared.plan.Plan.{Plan}
+use Rattle.compact_types.specs.Drawings.{OnPiece, MayShare}
 use Rattle.drawing_check.specs.declared.meeting.Meeting.{Meeting}
 use Rattle.drawing_check.specs.Points.{IsLeastPoint}
-use Rattle.drawing_check.specs.Meetings.{Meets, IsApart}
+use Rattle.drawing_check.specs.Meetings.{Meets}
+
+-- the pieces i and j share no point that they may not share
+abbrev pub IsApart : Plan → Places → ℕ → ℕ → Type 0
+IsApart plan places i j =
+    (z : Point) → OnPiece plan places i z → OnPiece plan places j z → MayShare plan places i j z
 
 -- of all pieces after p the second of the meeting is the first that meets p
 pub record IsFirstPartner (plan : Plan) (places : Places) (p : ℕ) (meeting : Meeting) : Type 0 where

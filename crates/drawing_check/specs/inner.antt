@@ -1,0 +1,6 @@
+pub mod PieceWays
+pub mod Spans
+pub mod CommonEnds
+pub mod Collisions
+pub mod Partners
+pub mod Groups
