@@ -1,7 +1,11 @@
 pub mod Words
 pub mod ShortestRow
-pub mod ReadingLimits
-pub mod Refusals
 pub mod RowShapes
 pub mod DrawnRows
-pub mod OneEnd
+pub mod Lines
+pub mod Refusals
+pub mod TextAnswers
+pub mod RowChoice
+pub mod CommandAnswers
+pub mod CommandOutputs
+pub mod RunEnds

@@ -1,21 +1,15 @@
--- The refusal of places that are no drawing.
-use Rattle.std.proofs.Common.{ℕ, List, Err}
+-- A refusal of a step, told as a refusal of the text.
+use Rattle.std.proofs.Common.{◌≡◌, Err, sym, subst}
 use Rattle.compact_types.specs.declared.refusal.Refusal.{Refusal}
 use Rattle.compact_types.specs.declared.refusal.Refusal.TheVariants.{Fault, NoMemory}
-use Rattle.compact_types.specs.declared.plan.Shape.{Shape}
+use Rattle.compact_types.specs.Mapping.{IsMapped}
 use Rattle.compact_types.specs.Refusals.{IfFault}
-use Rattle.gml_text.specs.declared.tree.Tree.{Tree}
-use Rattle.gml_text.specs.Texts.{Spells}
-use Rattle.drawing_read.specs.declared.reading.Reading.{Reading}
-use Rattle.drawing_read.specs.Readings.{IsReading}
-use Rattle.drawing_check.specs.declared.fault.ShapeFault.{ShapeFault}
-use Rattle.drawing_check.specs.Faults.{FirstShapeFault}
-use Rattle.compact_main.specs.declared.drawing.Drawing.{Drawing}
-use Rattle.compact_main.specs.declared.status.Why.{Why}
-use Rattle.compact_main.specs.Drawings.{FirstTextFault, shape_refusal}
 
-pub shape_refused : (text : List ℕ) (tree : Tree) (reading : Reading) (refusal : Refusal ShapeFault) → Spells text tree → IsReading tree reading →
-    IfFault {T = Shape} (Err refusal) (FirstShapeFault reading.plan reading.places) →
-    IfFault {T = Drawing} {F = Why} (Err (shape_refusal refusal)) (FirstTextFault text)
-shape_refused text tree reading (Fault fault) spelled read first = (tree, reading, spelled, read, first)
-shape_refused text tree reading NoMemory spelled read first = tt
+-- what the fault of the step says of the text, where the refusal is told so
+pub told : {F G : Type 0} (T U : Type 0) (refusal : Refusal F) (mapped : Refusal G) (tell : F → G) (Q : F → Type 0) (R : G → Type 0) →
+    ((fault : F) → Q fault → R (tell fault)) → IfFault {T = T} (Err refusal) Q →
+    IsMapped refusal (λ fault other. other ≡ tell fault) mapped → IfFault {T = U} (Err mapped) R
+told T U (Fault fault) (Fault other) tell Q R each first is = subst R (sym is) (each fault first)
+told T U (Fault fault) NoMemory tell Q R each first is = absurd is
+told T U NoMemory (Fault other) tell Q R each first is = cc
+told T U NoMemory NoMemory tell Q R each first is = tt

@@ -11,7 +11,7 @@ use Rattle.compact_types.specs.declared.plan.Way.TheVariants.{East}
 use Rattle.compact_types.specs.Lookups.{no_piece, piece_at}
 use Rattle.compact_types.specs.Connected.{IsJoined, IsConnected, start, forward, backward}
 use Rattle.compact_types.specs.Bests.{total_length, IsBest}
-use Rattle.drawing_check.proofs.ShapeLemmas.{same_plan, same_shape}
+use Rattle.compact_types.proofs.Laws.{same_plan, same_shape}
 use Rattle.compact_main.specs.Drawings.{IsRow}
 use Rattle.compact_main.specs.Rows.{row_piece, row_point, row_shape, row_places}
 use Rattle.compact_main.proofs.ShortestRow.{row_is_best}
@@ -23,8 +23,8 @@ AreInOrder plan = (i : ℕ) → i < length plan.pieces → piece_at plan.pieces 
 -- no vertex behind the last piece is joined
 joined_within : (plan : Plan) → AreInOrder plan → {v : ℕ} → IsJoined plan v → v ≤ length plan.pieces
 joined_within plan order start = omega arith
-joined_within plan order (forward i below from) = let is : (piece_at plan.pieces i).to ≡ suc i = ap (λ (p : Piece). p.to) (order i below) in omega arith
-joined_within plan order (backward i below to) = let is : (piece_at plan.pieces i).from ≡ i = ap (λ (p : Piece). p.from) (order i below) in omega arith
+joined_within plan order (forward i below used from) = let is : (piece_at plan.pieces i).to ≡ suc i = ap (λ (p : Piece). p.to) (order i below) in omega arith
+joined_within plan order (backward i below used to) = let is : (piece_at plan.pieces i).from ≡ i = ap (λ (p : Piece). p.from) (order i below) in omega arith
 
 most_vertices : (plan : Plan) → AreInOrder plan → IsConnected plan → plan.vertices ≤ suc (length plan.pieces)
 most_vertices plan order connected = by_cases (cases_lt (suc (length plan.pieces)) plan.vertices)

@@ -13,7 +13,7 @@ use Rattle.compact_types.specs.declared.plan.Way.TheVariants.{East}
 use Rattle.compact_types.specs.Lookups.{origin, no_piece, place, piece_at, way_at, along, HaveSameEnds}
 use Rattle.compact_types.specs.Ways.{HasWay}
 use Rattle.compact_types.specs.Segments.{OnSegment}
-use Rattle.compact_types.specs.Drawings.{begin_of, end_of, OnPiece, MayShare, IsCrossingFree, HasWays, IsDrawing, IsFromZero}
+use Rattle.compact_types.specs.Drawings.{begin_of, end_of, OnPiece, MayShare, MeetOnlyAtEnds, HasWays, IsDrawing, IsFromZero}
 use Rattle.compact_types.specs.Sums.{sum_to}
 use Rattle.compact_types.specs.Lengths.{distance, length_of}
 use Rattle.compact_types.specs.Orders.{numbers_of, IsListBefore, IsBefore}
@@ -95,8 +95,8 @@ share_later n i j z h within on_i on_j =
       apart = λ same. row_apart i j (omega arith) (rw (piece_of_row n i within, piece_of_row n j first) at same);
     }
 
-row_crossing_free : (n : ℕ) → IsCrossingFree (row_plan n) (row_places (suc n))
-row_crossing_free n i j i_within j_within other z on_i on_j =
+row_meet_at_ends : (n : ℕ) → MeetOnlyAtEnds (row_plan n) (row_places (suc n))
+row_meet_at_ends n i j i_within j_within other z on_i on_j =
     by_order (cases_lt i j)
   where
     by_order : (i < j) ⊎ (j ≤ i) → MayShare (row_plan n) (row_places (suc n)) i j z
@@ -105,9 +105,11 @@ row_crossing_free n i j i_within j_within other z on_i on_j =
 
 row_is_drawing : (n : ℕ) → IsDrawing (row_shape (suc n)) (row_places (suc n))
 row_is_drawing n = record {
-  places_fit = length-map-range_with_len row_point 0 (suc n);
-  ways = row_has_ways n;
-  crossing_free = row_crossing_free n;
+  crossing_free = record {
+    places_fit = length-map-range_with_len row_point 0 (suc n);
+    ways = row_has_ways n;
+    meetings = row_meet_at_ends n;
+  };
 }
 
 row_from_zero : (n : ℕ) → IsFromZero (row_places (suc n))
@@ -151,12 +153,12 @@ module _ (n : ℕ) (other : Places) (drawing : IsDrawing (row_shape (suc n)) oth
   goes_east : (i : ℕ) → i < n → (place other.xy i).x <ℤ (place other.xy (suc i)).x
   goes_east i h =
       let way : HasWay (way_at (row_ways n) i) (begin_of (row_plan n) other i) (end_of (row_plan n) other i) =
-      drawing.ways i (omega (arith, length-map-range_with_len row_piece 0 n)) in
+      drawing.crossing_free.ways i (omega (arith, length-map-range_with_len row_piece 0 n)) in
       let east = rw (way_of_row n i h, begin_of_row n i other h, end_of_row n i other h) at way in
       east.0
 
   none_below : (axis : Axis) (k : ℕ) → k < suc n → pos 0 ≤ℤ (along axis (place other.xy k))
-  none_below axis k h = (zeros axis).none_below k (omega (arith, drawing.places_fit))
+  none_below axis k h = (zeros axis).none_below k (omega (arith, drawing.crossing_free.places_fit))
 
   x_at_least : (k : ℕ) → k < suc n → pos k ≤ℤ ((place other.xy k).x)
   x_at_least zero h = none_below X 0 h
@@ -191,7 +193,7 @@ row_none_before n other drawing zeros (inl shorter) =
     omega (arith, ints, least, row, shorter)
 row_none_before n other drawing zeros (inr (same, before)) =
     let count : length (row_places (suc n)).xy ≡ suc n = length-map-range_with_len row_point 0 (suc n) in
-    not_before other.xy (row_places (suc n)).xy (drawing.places_fit ∙ sym count) (λ k below.
+    not_before other.xy (row_places (suc n)).xy (drawing.crossing_free.places_fit ∙ sym count) (λ k below.
     let h : k < suc n = omega (arith, count) in
     rw (place_of_row (suc n) k h)
     (record { x = x_at_least n other drawing zeros k h; y = none_below n other drawing zeros Y k h })) before

@@ -15,7 +15,6 @@ abbrev pub Asks : List (List ℕ) → Command → Type 0
 Asks words Draw = words ≡ codes "draw" ∷ codes "--plain" ∷ []
 Asks words Check = words ≡ codes "check" ∷ []
 
--- how many bytes the command's text may have
-abbrev pub limit_of : Command → ℕ
-limit_of Draw = 4194304
-limit_of Check = 4194304
+-- this command is asked for, and no other
+abbrev pub IsThe : Command → Command → Type 0
+IsThe command asked = asked ≡ command

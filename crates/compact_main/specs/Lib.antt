@@ -1,7 +1,9 @@
 pub mod Commands
+pub mod Intakes
 pub mod Statuses
 pub mod Rows
 pub mod Drawings
 pub mod Outputs
 pub mod Runs
 pub mod Notes
+pub mod inner

@@ -2,20 +2,31 @@
 use Rattle.std.specs.Prelude.{◌≡◌, ℕ, ℤ, List, [], ◌∷◌, ◌++◌, Option, codes, decimal, ◌⊎◌}
 use Rattle.std.specs.Fmt.{signed_decimal}
 use Rattle.std.specs.Io.KnownBytes.{Appends}
-use Rattle.io_ends.specs.Counts.{Rose}
+use Rattle.io_ends.specs.Counts.{Counted, Uncounted}
 use Rattle.io_ends.specs.Ends.{AppendsFront}
 use Rattle.gml_text.specs.declared.fault.GmlKind.{GmlKind}
-use Rattle.gml_text.specs.declared.fault.GmlKind.TheVariants.{BadKey, BadValue, BadNumeral, OpenString, OpenList, StrayClose, TooDeep}
+use Rattle.gml_text.specs.declared.fault.GmlKind.TheVariants.{BadKey, BadValue, BadNumeral}
+use Rattle.gml_text.specs.declared.fault.GmlKind.TheVariants.{OpenString, OpenList, StrayClose}
+use Rattle.gml_text.specs.declared.fault.GmlKind.TheVariants.{TooDeep}
 use Rattle.gml_text.specs.declared.number.NumberFault.{NumberFault}
 use Rattle.gml_text.specs.declared.number.NumberFault.TheVariants.{TooFine, OutOfRange}
 use Rattle.drawing_read.specs.declared.fault.DrawFault.{DrawFault}
-use Rattle.drawing_read.specs.declared.fault.DrawFault.TheVariants.{NoGraph, TwoGraphs, Empty, NoId, BadId, RepeatedId, NoPlace, BadNumber, NoEnd, UnknownEnd, BadPoint, TooManyVertices, TooManyPieces}
+use Rattle.drawing_read.specs.declared.fault.DrawFault.TheVariants.{NoGraph, TwoGraphs, Empty, NoId}
+use Rattle.drawing_read.specs.declared.fault.DrawFault.TheVariants.{BadId, RepeatedId, NoPlace}
+use Rattle.drawing_read.specs.declared.fault.DrawFault.TheVariants.{BadNumber, NoEnd, UnknownEnd}
+use Rattle.drawing_read.specs.declared.fault.DrawFault.TheVariants.{BadPoint, TooManyVertices}
+use Rattle.drawing_read.specs.declared.fault.DrawFault.TheVariants.{TooManyPieces}
 use Rattle.drawing_check.specs.declared.fault.ShapeFault.{ShapeFault}
-use Rattle.drawing_check.specs.declared.fault.ShapeFault.TheVariants.{ZeroPiece, Slanted, Disconnected, Meeting}
+use Rattle.drawing_check.specs.declared.fault.ShapeFault.TheVariants.{ZeroPiece, Slanted}
+use Rattle.drawing_check.specs.declared.fault.ShapeFault.TheVariants.{Disconnected, Meeting}
+use Rattle.compact_main.specs.declared.command.Command.{Command}
 use Rattle.compact_main.specs.declared.status.Why.{Why}
-use Rattle.compact_main.specs.declared.status.Why.TheVariants.{TooLong, Gml, Draw, Shape as Figure, NotYet}
+use Rattle.compact_main.specs.declared.status.Why.TheVariants.{TooLong, Gml, Draw, Shape as Figure}
+use Rattle.compact_main.specs.declared.status.Why.TheVariants.{NotYet}
 use Rattle.compact_main.specs.declared.status.Status.{Status}
-use Rattle.compact_main.specs.declared.status.Status.TheVariants.{Done, Refused, BadWords, ReadFault, WriteFault, NoMemory}
+use Rattle.compact_main.specs.declared.status.Status.TheVariants.{Done, Refused, BadWords}
+use Rattle.compact_main.specs.declared.status.Status.TheVariants.{ReadFault, WriteFault, NoMemory}
+use Rattle.compact_main.specs.Intakes.{limit_of}
 
 -- what is wrong with a text that is no GML
 abbrev pub kind_text : GmlKind → List ℕ
@@ -48,7 +59,8 @@ draw_text (NoPlace node) = around (codes "node ") node (codes " has no place")
 draw_text (BadNumber at cause) = cause_text cause ++ codes " at byte " ++ decimal at
 draw_text (NoEnd edge) = around (codes "edge ") edge (codes " lacks an end")
 draw_text (UnknownEnd edge) = around (codes "edge ") edge (codes " names no node")
-draw_text (BadPoint edge point) = around (codes "edge ") edge (codes " has a bad point ") ++ decimal point
+draw_text (BadPoint edge point) =
+    around (codes "edge ") edge (codes " has a bad point ") ++ decimal point
 draw_text (TooManyVertices count) = decimal count ++ codes " vertices"
 draw_text (TooManyPieces count) = decimal count ++ codes " pieces"
 
@@ -67,28 +79,45 @@ shape_text (Slanted piece) = around (codes "piece ") piece (codes " is slanted")
 shape_text (Disconnected vertex) = around (codes "vertex ") vertex (codes " is not joined")
 shape_text (Meeting p q x y) = pair_text p q ++ meeting_text x y
 
--- why a text is refused
-abbrev pub why_text : Why → List ℕ
-why_text TooLong = codes "more than 4194304 bytes"
-why_text (Gml fault) = kind_text fault.kind ++ codes " at byte " ++ decimal fault.at
-why_text (Draw fault) = draw_text fault
-why_text (Figure fault) = shape_text fault
-why_text NotYet = codes "not built yet"
+-- why a text is refused, by a command that reads no more than the limit
+abbrev pub why_text : ℕ → Why → List ℕ
+why_text limit TooLong = around (codes "more than ") limit (codes " bytes")
+why_text limit (Gml fault) = kind_text fault.kind ++ codes " at byte " ++ decimal fault.at
+why_text limit (Draw fault) = draw_text fault
+why_text limit (Figure fault) = shape_text fault
+why_text limit NotYet = codes "not built yet"
 
 -- the line without its line feed
-abbrev pub status_text : Status → List ℕ
-status_text Done = []
-status_text (Refused why) = codes "refused: " ++ why_text why
-status_text BadWords = codes "usage: draw [--workers N] [--pitch N] [--plain] | check | measure | verify | sample N"
-status_text ReadFault = codes "read fault"
-status_text WriteFault = codes "write fault"
-status_text NoMemory = codes "no memory"
+abbrev pub status_text : ℕ → Status → List ℕ
+status_text limit Done = []
+status_text limit (Refused why) = codes "refused: " ++ why_text limit why
+status_text limit BadWords =
+    codes "usage: draw [--workers N] [--pitch N] [--plain] | check | measure | verify | sample N"
+status_text limit ReadFault = codes "read fault"
+status_text limit WriteFault = codes "write fault"
+status_text limit NoMemory = codes "no memory"
 
--- the line for a status that is not Done
-abbrev pub note_text : Status → List ℕ
-note_text status = status_text status ++ 10 ∷ []
+-- the line for a status that is not Done, of a command that reads no more than the limit
+abbrev pub note_text : ℕ → Status → List ℕ
+note_text limit status = status_text limit status ++ 10 ∷ []
+
+-- the line tells how the run ended, with the limit of the command that was asked for
+pub record IsLine (Asked : Command → Type 0) (status : Status) (line : List ℕ) : Type 0 where
+  pub limit : ℕ
+  pub of_command : (command : Command) → Asked command → limit ≡ limit_of command
+  pub text : line ≡ note_text limit status
 
 -- the sink gained the line, or a front of it where a write failed
 abbrev pub IsNoted : List ℕ → Option (List ℕ) → Option (List ℕ) → ℕ → ℕ → Type 0
 IsNoted line held held' faults faults' =
-    (Appends held held' line × (faults' ≡ faults)) ⊎ (AppendsFront held held' line × Rose faults faults')
+    (Appends held held' line × Uncounted faults faults')
+    ⊎ (AppendsFront held held' line × Counted faults faults')
+
+-- what the sink of the notes gained in the run of a program that is asked for these commands
+pub record IsTold {N : Type 0} (Asked : Command → Type 0)
+    (held : N → Option (List ℕ)) (faults : N → ℕ) (sink sink' : N)
+    (status : Status) : Type 0 where
+  pub no_notes : status ≡ Done → sink' ≡ sink
+  pub notes : (status ≡ Done → ⊥) →
+      (line : List ℕ) × IsLine Asked status line
+      × IsNoted line (held sink) (held sink') (faults sink) (faults sink')

@@ -1,7 +1,8 @@
 -- A row: vertices 0, 1, 2, .. and a piece from each to the next, all going east.
 use Rattle.std.specs.Prelude.{◌≡◌, ℕ, zero, suc, ◌<◌, pos, List, [], length, map}
 use Rattle.std.specs.List.{range_with_len}
-use Rattle.std.proofs.Common.{subst, sym, ◌∙◌, zero-add, lt_trans, lt-suc_self, suc-le-suc, not-suc-le-zero, refl}
+use Rattle.std.proofs.Common.{subst, sym, ◌∙◌, zero-add, lt_trans, lt-suc_self, suc-le-suc}
+use Rattle.std.proofs.Common.{not-suc-le-zero, refl}
 use Rattle.std.proofs.lemmas.List.FromFn.{length-map-range_with_len, get_or-map-range_with_len}
 use Rattle.compact_types.specs.declared.places.Point.{Point}
 use Rattle.compact_types.specs.declared.places.Places.{Places}
@@ -27,14 +28,16 @@ row_ways n = map (λ k. East) (range_with_len 0 n)
 -- the ends of n pieces are vertices 0 to n
 pub row_ends : (n : ℕ) → EndsAreVertices (suc n) (row_pieces n)
 row_ends n i below =
-    let within : i < n = subst (λ count. i < count) (length-map-range_with_len row_piece 0 n) below in
+    let same = length-map-range_with_len row_piece 0 n in
+    let within : i < n = subst (λ count. i < count) same below in
     subst (λ (piece : Piece). (piece.from < suc n) × (piece.to < suc n))
     (sym (get_or-map-range_with_len row_piece 0 n i i no_piece within (zero-add i)))
     (lt_trans within (lt-suc_self n), suc-le-suc within)
 
 -- there are as many ways as pieces
 pub row_ways_fit : (n : ℕ) → length (row_ways n) ≡ length (row_pieces n)
-row_ways_fit n = length-map-range_with_len (λ k. East) 0 n ∙ sym (length-map-range_with_len row_piece 0 n)
+row_ways_fit n =
+    length-map-range_with_len (λ k. East) 0 n ∙ sym (length-map-range_with_len row_piece 0 n)
 
 -- n + 1 vertices and the n pieces between them
 abbrev pub row_plan : ℕ → Plan

@@ -1,7 +1,8 @@
 -- The numbers of the statuses.
 use Rattle.std.specs.Prelude.{ℕ}
 use Rattle.compact_main.specs.declared.status.Status.{Status}
-use Rattle.compact_main.specs.declared.status.Status.TheVariants.{Done, Refused, BadWords, ReadFault, WriteFault, NoMemory}
+use Rattle.compact_main.specs.declared.status.Status.TheVariants.{Done, Refused, BadWords}
+use Rattle.compact_main.specs.declared.status.Status.TheVariants.{ReadFault, WriteFault, NoMemory}
 
 abbrev pub number_of_status : Status → ℕ
 number_of_status Done = 0

@@ -1,6 +1,12 @@
+//! The commands and the words that ask for them.
+
 ghost use Rattle.std.specs.Prelude.{◌≡◌, IfSome, IfNone};
 ghost use Rattle.compact_main.specs.declared.command.Command.{Command};
-ghost use Rattle.compact_main.specs.Commands.{texts_of, Asks, limit_of};
+ghost use Rattle.compact_main.specs.Commands.{texts_of, Asks};
+ghost use Rattle.compact_main.specs.Intakes.{limit_of};
+
+/// The most bytes of a text that is drawn or checked: 4 MiB.
+pub const MOST_INPUT_BYTES: usize = 4_194_304;
 
 /// What the program is asked to do.
 #[derive(Clone, Copy, Debug, PartialEq, Eq)]
@@ -12,8 +18,8 @@ pub enum Command {
 }
 
 /// The command that the words ask for; `None` for every other list of words. No memory is taken.
-pub fn command_of(words: &[String]) -> Option<Command>
-    ensures some { IfSome result (λ command. Asks (texts_of words.now) command) }
+pub(crate) fn command_of(words: &[String]) -> Option<Command>
+    ensures some { IfSome result (Asks (texts_of words.now)) }
     ensures none { IfNone result ((command : Command) → Asks (texts_of words.now) command → ⊥) }
 {
     match words {
@@ -26,13 +32,12 @@ pub fn command_of(words: &[String]) -> Option<Command>
 }
 
 impl Command {
-    /// How many bytes the text may have.
-    pub fn limit(self) -> usize
+    /// How many bytes the command reads at most.
+    pub(crate) fn limit(self) -> usize
         ensures { result ≡ limit_of self }
     {
         match self {
-            Command::Draw => 4_194_304,
-            Command::Check => 4_194_304,
+            Command::Draw | Command::Check => MOST_INPUT_BYTES,
         }
     }
 }

@@ -1,21 +1,51 @@
 //! The program: it compacts orthogonal drawings in GML.
 //!
-//! `run::run_alone` is the top call. It carries the program's promise: what it writes for a text, and why it refuses one.
+//! `run_alone` is the top call and carries the program's promise. `IsRun` says what the run did,
+//! for words, a source and a sink of any kind: what was read and written, how each status came
+//! about, and that every text is answered or refused with its first fault. `IsTold` says what the
+//! user was told. The laws say that a text is accepted or has one first fault, and that what is
+//! written is a function of the text.
 #![tactic(auto)]
 
-use io_ends::streams::{StdSink, StdSource};
+mod command;
+mod drawing;
+mod laws;
+mod note;
+mod notify;
+mod output;
+mod room;
+mod rows;
+mod run;
+mod status;
+
+pub use command::{Command, MOST_INPUT_BYTES};
+use io_ends::{StdSink, StdSource};
+pub use laws::{
+    accepted_texts_have_an_output, outputs_are_functions_of_the_text,
+    texts_are_accepted_or_refused, texts_have_one_answer, words_ask_for_one_command,
+};
+use notify::notify;
+pub use run::run_alone;
+pub use status::{Status, Why};
 use std::process::ExitCode;
 use std::{env, io};
 
-pub mod command;
-pub mod drawing;
-pub mod note;
-pub mod notify;
-pub mod rows;
-pub mod run;
-pub mod status;
-
-use status::Status;
+fn main(rt: HostRuntime) -> ExitCode {
+    let status = match words_of(&rt) {
+        Ok(words) => run_alone(
+            rt.alloc(),
+            words.as_slice(),
+            &mut StdSource::new(rt.stdin()),
+            &mut StdSink::new(rt.stdout()),
+            &mut StdSink::new(rt.stderr()),
+        ),
+        Err(status) => {
+            notify(&mut StdSink::new(rt.stderr()), 0, status);
+            status
+        }
+    };
+    ExitCode::from(status.number())
+}
 
 /// The words after the program's name. A word that is no UTF-8 is a faulty command line.
 fn words_of(rt: &HostRuntime) -> Result<Vec<String>, Status> {
@@ -26,21 +56,4 @@ fn words_of(rt: &HostRuntime) -> Result<Vec<String>, Status> {
     };
     let _program = words.next();
     words.collect(rt.alloc()).map_err(|_| Status::NoMemory)
-}
-
-fn main(rt: HostRuntime) -> ExitCode {
-    let status = match words_of(&rt) {
-        Ok(words) => run::run_alone(
-            rt.alloc(),
-            words.as_slice(),
-            &mut StdSource::new(rt.stdin()),
-            &mut StdSink::new(rt.stdout()),
-            &mut StdSink::new(rt.stderr()),
-        ),
-        Err(status) => {
-            notify::notify(&mut StdSink::new(rt.stderr()), status);
-            status
-        }
-    };
-    ExitCode::from(status.number())
 }

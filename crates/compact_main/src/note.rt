@@ -1,13 +1,16 @@
-ghost use Rattle.std.specs.Prelude.{◌≡◌, ◌+◌, ◌≤◌, [], ◌++◌, length};
+//! A line for the user that takes no memory.
+
+ghost use Rattle.std.specs.Prelude.{◌≡◌, []};
+ghost use Rattle.compact_main.specs.inner.Rooms.{IsAdded};
 
 use std::marker::Model;
 
-/// The most bytes of a note.
-pub const NOTE_ROOM: usize = 256;
+/// The most bytes of a note. Every line for the user fits.
+pub(crate) const NOTE_ROOM: usize = 256;
 
-/// One line for the user, in a buffer of fixed size, so that it takes no memory.
+/// One line for the user, in a buffer of fixed size. Contracts see it as its text.
 #[derive(Drop)]
-pub struct Note {
+pub(crate) struct Note {
     bytes: [u8; NOTE_ROOM],
     length: usize,
 }
@@ -25,7 +28,7 @@ impl Model for Note {
 
 impl Note {
     /// A note without text.
-    pub fn new() -> Note
+    pub(crate) fn new() -> Note
         ensures { result ≡ [] }
     {
         Note {
@@ -34,18 +37,18 @@ impl Note {
         }
     }
 
-    /// Adds `text` at the end.
-    pub fn push(&mut self, text: &[u8])
-        requires { length self.old + length text.now ≤ NOTE_ROOM }
-        ensures { self.new ≡ self.old ++ text.now }
+    /// Adds `text` at the end, as much of it as there is room for.
+    pub(crate) fn push(&mut self, text: &[u8])
+        ensures { IsAdded self.old self.new text.now }
     {
-        let end = self.length + text.len();
-        self.bytes[self.length..end].copy_from_slice(text);
+        let count = (NOTE_ROOM - self.length).min(text.len());
+        let end = self.length + count;
+        self.bytes[self.length..end].copy_from_slice(&text[..count]);
         self.length = end;
     }
 
     /// The text of the note.
-    pub fn as_slice(&self) -> &[u8]
+    pub(crate) fn as_slice(&self) -> &[u8]
         ensures { result.now ≡ self.now }
     {
         &self.bytes[..self.length]

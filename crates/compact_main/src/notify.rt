@@ -1,41 +1,53 @@
-ghost use Rattle.std.specs.Prelude.{◌≡◌, ◌+◌, ◌≤◌, [], ◌++◌, length, decimal, codes};
-ghost use Rattle.std.specs.Fmt.{signed_decimal};
-ghost use Rattle.compact_main.specs.Notes.{note_text, status_text, why_text, kind_text, cause_text, draw_text, shape_text, pair_text, meeting_text, around, IsNoted};
+//! What the user is told of a run that was not done.
+
+ghost use Rattle.std.specs.Prelude.{◌≡◌, ◌++◌, codes, decimal};
+ghost use Rattle.compact_main.specs.Notes.{note_text, status_text, why_text, IsNoted};
+ghost use Rattle.compact_main.specs.Notes.{kind_text, cause_text, draw_text, shape_text};
+ghost use Rattle.compact_main.specs.Notes.{pair_text, meeting_text, around};
+ghost use Rattle.compact_main.specs.inner.Rooms.{IsAdded};
 
 use crate::note::Note;
+use crate::room::line_fits;
 use crate::status::{Status, Why};
-use drawing_check::fault::ShapeFault;
-use drawing_read::fault::DrawFault;
-use gml_text::fault::GmlKind;
-use gml_text::number::NumberFault;
-use io_ends::sink::Sink;
-use io_ends::transfer::write_all;
-use itoa::Buffer;
+use drawing_check::ShapeFault;
+use drawing_read::DrawFault;
+use gml_text::{GmlKind, NumberFault};
+use io_ends::{Sink, write_all};
+use itoa::{Buffer, Integer};
 
-/// Tells the user how a run ended that was not done: one line, made without memory. A fault of `notes` changes
-/// nothing but its count.
-pub fn notify<N: Sink>(notes: &mut N, status: Status)
-    ensures { IsNoted (note_text status) (N.held notes.old) (N.held notes.new) (N.faults notes.old) (N.faults notes.new) }
+/// Tells the user how a run ended that was not done: one line, made without memory. Where the text
+/// was too long the line names the limit. A fault of `notes` changes nothing but its count.
+pub(crate) fn notify<N: Sink>(notes: &mut N, limit: usize, status: Status)
+    ensures { IsNoted (note_text limit status)
+        (N.held notes.old) (N.held notes.new) (N.faults notes.old) (N.faults notes.new) }
 {
-    let mut note = Note::new();
-    push_status(&mut note, status);
-    note.push(b"\n");
+    let note = note_of(limit, status);
     let _ = write_all(notes, note.as_slice());
 }
 
-fn push_status(note: &mut Note, status: Status)
-    requires { note.old ≡ [] }
-    ensures text { note.new ≡ status_text status }
-    ensures room { length note.new ≤ 240 }
+/// The line for a status.
+fn note_of(limit: usize, status: Status) -> Note
+    ensures { result ≡ note_text limit status }
+{
+    line_fits(limit, status);
+    let mut note = Note::new();
+    push_status(&mut note, limit, status);
+    note.push(b"\n");
+    note
+}
+
+fn push_status(note: &mut Note, limit: usize, status: Status)
+    ensures { IsAdded note.old note.new (status_text limit status) }
 {
     match status {
-        Status::Done => {}
+        Status::Done => note.push(b""),
         Status::Refused(why) => {
             note.push(b"refused: ");
-            push_why(note, why);
+            push_why(note, limit, why);
         }
         Status::BadWords => note.push(
-            b"usage: draw [--workers N] [--pitch N] [--plain] | check | measure | verify | sample N",
+            b"usage: draw [--workers N] [--pitch N] [--plain] \
+            | check | measure | verify | sample N",
         ),
         Status::ReadFault => note.push(b"read fault"),
         Status::WriteFault => note.push(b"write fault"),
@@ -43,131 +55,31 @@ fn push_status(note: &mut Note, status: Status)
     }
 }
 
-fn push_why(note: &mut Note, why: Why)
-    requires { length note.old ≤ 9 }
-    ensures text { note.new ≡ note.old ++ why_text why }
-    ensures room { length note.new ≤ 240 }
+/// Why a text is refused.
+fn push_why(note: &mut Note, limit: usize, why: Why)
+    ensures { IsAdded note.old note.new (why_text limit why) }
 {
     match why {
-        Why::TooLong => note.push(b"more than 4194304 bytes"),
-        Why::Gml(fault) => {
-            note.push(kind_of(fault.kind));
-            note.push(b" at byte ");
-            push_number(note, fault.at);
-        }
+        Why::TooLong => push_too_long(note, limit),
+        Why::Gml(fault) => push_at(note, kind_of(fault.kind), fault.at),
         Why::Draw(fault) => push_draw_fault(note, fault),
         Why::Shape(fault) => push_shape_fault(note, fault),
         Why::NotYet => note.push(b"not built yet"),
     }
 }
 
-/// Why a tree is no drawing.
-fn push_draw_fault(note: &mut Note, fault: DrawFault)
-    requires { length note.old ≤ 9 }
-    ensures text { note.new ≡ note.old ++ draw_text fault }
-    ensures room { length note.new ≤ 240 }
+/// A text has more bytes than the limit.
+fn push_too_long(note: &mut Note, limit: usize)
+    ensures { IsAdded note.old note.new (around (codes "more than ") limit (codes " bytes")) }
 {
-    match fault {
-        DrawFault::NoGraph => note.push(b"no graph"),
-        DrawFault::TwoGraphs => note.push(b"two graphs"),
-        DrawFault::Empty => note.push(b"no node"),
-        DrawFault::NoId(node) => push_around(note, b"node ", node, b" has no id"),
-        DrawFault::BadId(node) => push_around(note, b"node ", node, b" has a bad id"),
-        DrawFault::RepeatedId(node) => push_around(note, b"node ", node, b" repeats an id"),
-        DrawFault::NoPlace(node) => push_around(note, b"node ", node, b" has no place"),
-        DrawFault::BadNumber { at, cause } => push_around(note, cause_of(cause), at, b""),
-        DrawFault::NoEnd(edge) => push_around(note, b"edge ", edge, b" lacks an end"),
-        DrawFault::UnknownEnd(edge) => push_around(note, b"edge ", edge, b" names no node"),
-        DrawFault::BadPoint { edge, point } => {
-            push_around(note, b"edge ", edge, b" has a bad point ");
-            push_number(note, point);
-        }
-        DrawFault::TooManyVertices(count) => push_around(note, b"", count, b" vertices"),
-        DrawFault::TooManyPieces(count) => push_around(note, b"", count, b" pieces"),
-    }
-}
-
-/// Why a number is no coordinate, up to its offset.
-fn cause_of(cause: NumberFault) -> &'static [u8]
-    ensures text { result.now ≡ cause_text cause ++ codes " at byte " }
-    ensures short { length result.now ≤ 28 }
-{
-    match cause {
-        NumberFault::TooFine => b"number too fine at byte ",
-        NumberFault::OutOfRange => b"number out of range at byte ",
-    }
-}
-
-/// Why places are no drawing.
-fn push_shape_fault(note: &mut Note, fault: ShapeFault)
-    requires { length note.old ≤ 9 }
-    ensures text { note.new ≡ note.old ++ shape_text fault }
-    ensures room { length note.new ≤ 240 }
-{
-    match fault {
-        ShapeFault::ZeroPiece(piece) => push_around(note, b"piece ", piece, b" has no length"),
-        ShapeFault::Slanted(piece) => push_around(note, b"piece ", piece, b" is slanted"),
-        ShapeFault::Disconnected(vertex) => push_around(
-            note,
-            b"vertex ",
-            vertex,
-            b" is not joined",
-        ),
-        ShapeFault::Meeting { p, q, x, y } => {
-            push_pair(note, p, q);
-            push_meeting(note, x, y);
-        }
-    }
-}
-
-/// Adds two pieces by their numbers.
-fn push_pair(note: &mut Note, p: u32, q: u32)
-    requires { length note.old ≤ 9 }
-    ensures text { note.new ≡ note.old ++ pair_text p q }
-    ensures room { length note.new ≤ 110 }
-{
-    push_around(note, b"pieces ", p, b" and ");
-    push_number(note, q);
-}
-
-/// Adds where two pieces meet.
-fn push_meeting(note: &mut Note, x: i64, y: i64)
-    requires { length note.old ≤ 110 }
-    ensures text { note.new ≡ note.old ++ meeting_text x y }
-    ensures room { length note.new ≤ 240 }
-{
-    note.push(b" meet at ");
-    push_coordinate(note, x);
-    note.push(b" ");
-    push_coordinate(note, y);
-}
-
-/// Adds a number between two short texts.
-fn push_around(note: &mut Note, front: &[u8], number: u32, back: &[u8])
-    requires room { length note.old ≤ 100 }
-    requires short { (length front.now ≤ 28) × (length back.now ≤ 28) }
-    ensures text { note.new ≡ note.old ++ around front.now number back.now }
-    ensures room { length note.new ≤ length note.old + length front.now + length back.now + 40 }
-{
-    note.push(front);
-    push_number(note, number);
-    note.push(back);
-}
-
-/// Adds a coordinate.
-fn push_coordinate(note: &mut Note, coordinate: i64)
-    requires { length note.old ≤ 200 }
-    ensures text { note.new ≡ note.old ++ signed_decimal coordinate }
-    ensures room { length note.new ≤ length note.old + 40 }
-{
-    let mut buffer = Buffer::new();
-    note.push(buffer.format(coordinate).as_bytes());
+    note.push(b"more than ");
+    push_number(note, limit);
+    note.push(b" bytes");
 }
 
 /// What is wrong with a text of which this fault is the first.
 fn kind_of(kind: GmlKind) -> &'static [u8]
-    ensures text { result.now ≡ kind_text kind }
-    ensures short { length result.now ≤ 17 }
+    ensures { result.now ≡ kind_text kind }
 {
     match kind {
         GmlKind::BadKey => b"bad key",
@@ -180,11 +92,89 @@ fn kind_of(kind: GmlKind) -> &'static [u8]
     }
 }
 
+/// Why a tree is no drawing.
+fn push_draw_fault(note: &mut Note, fault: DrawFault)
+    ensures { IsAdded note.old note.new (draw_text fault) }
+{
+    match fault {
+        DrawFault::NoGraph => note.push(b"no graph"),
+        DrawFault::TwoGraphs => note.push(b"two graphs"),
+        DrawFault::Empty => note.push(b"no node"),
+        DrawFault::NoId(node) => push_around(note, b"node ", node, b" has no id"),
+        DrawFault::BadId(node) => push_around(note, b"node ", node, b" has a bad id"),
+        DrawFault::RepeatedId(node) => push_around(note, b"node ", node, b" repeats an id"),
+        DrawFault::NoPlace(node) => push_around(note, b"node ", node, b" has no place"),
+        DrawFault::BadNumber { at, cause } => push_at(note, cause_of(cause), at),
+        DrawFault::NoEnd(edge) => push_around(note, b"edge ", edge, b" lacks an end"),
+        DrawFault::UnknownEnd(edge) => push_around(note, b"edge ", edge, b" names no node"),
+        DrawFault::BadPoint { edge, point } => {
+            push_around(note, b"edge ", edge, b" has a bad point ");
+            push_number(note, point);
+        }
+        DrawFault::TooManyVertices(count) => push_around(note, b"", count, b" vertices"),
+        DrawFault::TooManyPieces(count) => push_around(note, b"", count, b" pieces"),
+    }
+}
+
+/// Why a number is no coordinate.
+fn cause_of(cause: NumberFault) -> &'static [u8]
+    ensures { result.now ≡ cause_text cause }
+{
+    match cause {
+        NumberFault::TooFine => b"number too fine",
+        NumberFault::OutOfRange => b"number out of range",
+    }
+}
+
+/// Why places are no drawing.
+fn push_shape_fault(note: &mut Note, fault: ShapeFault)
+    ensures { IsAdded note.old note.new (shape_text fault) }
+{
+    match fault {
+        ShapeFault::ZeroPiece(piece) => {
+            push_around(note, b"piece ", piece, b" has no length");
+        }
+        ShapeFault::Slanted(piece) => push_around(note, b"piece ", piece, b" is slanted"),
+        ShapeFault::Disconnected(vertex) => {
+            push_around(note, b"vertex ", vertex, b" is not joined");
+        }
+        ShapeFault::Meeting { p, q, x, y } => push_meeting(note, p, q, x, y),
+    }
+}
+
+/// Adds two pieces by their numbers, and where they meet.
+fn push_meeting(note: &mut Note, p: u32, q: u32, x: i64, y: i64)
+    ensures { IsAdded note.old note.new (pair_text p q ++ meeting_text x y) }
+{
+    push_around(note, b"pieces ", p, b" and ");
+    push_number(note, q);
+    note.push(b" meet at ");
+    push_number(note, x);
+    note.push(b" ");
+    push_number(note, y);
+}
+
+/// Adds a text and the offset that it speaks of.
+fn push_at(note: &mut Note, text: &[u8], at: u32)
+    ensures { IsAdded note.old note.new (text.now ++ codes " at byte " ++ decimal at) }
+{
+    note.push(text);
+    note.push(b" at byte ");
+    push_number(note, at);
+}
+
+/// Adds a number between two texts.
+fn push_around(note: &mut Note, front: &[u8], number: u32, back: &[u8])
+    ensures { IsAdded note.old note.new (around front.now number back.now) }
+{
+    note.push(front);
+    push_number(note, number);
+    note.push(back);
+}
+
 /// Adds the digits of `number`.
-fn push_number(note: &mut Note, number: u32)
-    requires { length note.old ≤ 200 }
-    ensures text { note.new ≡ note.old ++ decimal number }
-    ensures room { length note.new ≤ length note.old + 40 }
+fn push_number<I: Integer>(note: &mut Note, number: I)
+    ensures { IsAdded note.old note.new (I.text number) }
 {
     let mut buffer = Buffer::new();
     note.push(buffer.format(number).as_bytes());

@@ -6,10 +6,7 @@ ghost use Rattle.compact_types.specs.Bests.{total_length, IsBest};
 ghost use Rattle.compact_main.specs.Drawings.{IsRow};
 ghost use Rattle.compact_main.specs.Rows as rows;
 
-use compact_types::items::Items;
-use compact_types::places::{Places, Point};
-use compact_types::plan::{Shape, Way};
-use compact_types::refusal::NoMemory;
+use compact_types::{Items, NoMemory, Places, Point, Shape, Way};
 use std::alloc::Global;
 
 /// Whether every piece goes east from its vertex to the next.
@@ -51,7 +48,7 @@ fn row_places(alloc: Global, vertices: u32) -> Result<Places, NoMemory>
 
 /// The best places of a connected shape, in grid steps, where it is a row; `None` where it is none.
 #[tactic(auto, using(crate::proofs::RowShapes::row_best))]
-pub fn best_places(alloc: Global, shape: &Shape) -> Result<Option<Places>, NoMemory>
+pub(crate) fn best_places(alloc: Global, shape: &Shape) -> Result<Option<Places>, NoMemory>
     requires connected { IsConnected shape.now.plan }
     requires some_vertex { 0 < shape.now.plan.vertices }
     ensures { IfOk result (λ found. MatchOption found

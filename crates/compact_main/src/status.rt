@@ -1,6 +1,8 @@
-use drawing_check::fault::ShapeFault;
-use drawing_read::fault::DrawFault;
-use gml_text::fault::GmlFault;
+//! How a run ended.
+
+use drawing_check::ShapeFault;
+use drawing_read::DrawFault;
+use gml_text::GmlFault;
 
 /// Why a text is refused.
 #[derive(Clone, Copy, Debug, PartialEq, Eq)]
@@ -20,7 +22,7 @@ pub enum Why {
 /// How a run ended. Its number is what the program exits with.
 #[derive(Clone, Copy, Debug, PartialEq, Eq)]
 pub enum Status {
-    /// The text was read to its end, and all was written.
+    /// All that the command reads was read, and all was written.
     Done,
     /// The command does not accept the text; nothing was written.
     Refused(Why),

@@ -1,58 +1,68 @@
+//! End to end: what is written, and what the user is told, by tables of runs.
+
 use crate::run::run_alone;
 use crate::run::texts::*;
 use crate::status::{Status, Why};
-use drawing_check::fault::ShapeFault;
-use drawing_read::fault::DrawFault;
-use gml_text::fault::{GmlFault, GmlKind};
-use gml_text::number::NumberFault;
-use io_ends::memory_sink::MemorySink;
-use io_ends::memory_source::{MemorySource, PlainSource};
+use drawing_check::ShapeFault;
+use drawing_read::DrawFault;
+use gml_text::{GmlFault, GmlKind, NumberFault};
+use io_ends::{MemorySink, MemorySource, PlainSource};
 use std::alloc::{AllocError, Global};
 use std::process::Abort;
 use std::test::Fail;
 
-/// A run on a text that comes in pieces of 16 bytes, where the reads of `failing` fail, into a sink with so much room.
+/// A run on a text that comes in pieces of 16 bytes, where the reads of `failing` fail, into a sink
+/// with so much room.
 #[derive(Clone, Copy)]
-struct Run<'a> {
+struct Row<'a> {
+    name: &'a str,
     words: &'a [&'a str],
     text: &'a [u8],
     failing: &'a [u64],
     room: usize,
     status: Status,
     written: &'a [u8],
-    note: &'a [u8],
+    line: &'a [u8],
 }
 
 const PLAIN: &[&str] = &["draw", "--plain"];
+
+const CHECK: &[&str] = &["check"];
 
 const USAGE: &[u8] =
     b"usage: draw [--workers N] [--pitch N] [--plain] | check | measure | verify | sample N\n";
 
 /// A run of `draw --plain` without faults that writes this.
-fn drawn<'a>(text: &'a [u8], written: &'a [u8]) -> Run<'a> {
-    Run {
+fn drawn<'a>(name: &'a str, text: &'a [u8], written: &'a [u8]) -> Row<'a> {
+    Row {
+        name,
         words: PLAIN,
         text,
         failing: &[],
         room: 1000,
         status: Status::Done,
         written,
-        note: b"",
+        line: b"",
     }
 }
 
-/// A run of `draw --plain` that ends with this status and writes nothing but a note.
-fn ended<'a>(text: &'a [u8], status: Status, note: &'a [u8]) -> Run<'a> {
-    Run {
+/// A run of `draw --plain` that ends with this status and writes nothing but a line for the user.
+fn ended<'a>(name: &'a str, text: &'a [u8], status: Status, line: &'a [u8]) -> Row<'a> {
+    Row {
         status,
-        note,
-        ..drawn(text, b"")
+        line,
+        ..drawn(name, text, b"")
     }
+}
+
+/// A run of `draw --plain` on a text that is refused.
+fn refused<'a>(name: &'a str, text: &'a [u8], why: Why, line: &'a [u8]) -> Row<'a> {
+    ended(name, text, Status::Refused(why), line)
 }
 
 /// A run of `draw --plain` on a text that has no tree.
-fn faulty<'a>(text: &'a [u8], kind: GmlKind, at: u32, note: &'a [u8]) -> Run<'a> {
-    ended(text, Status::Refused(Why::Gml(GmlFault { at, kind })), note)
+fn no_gml<'a>(name: &'a str, text: &'a [u8], kind: GmlKind, at: u32, line: &'a [u8]) -> Row<'a> {
+    refused(name, text, Why::Gml(GmlFault { at, kind }), line)
 }
 
 /// The words as the program is given them.
@@ -70,253 +80,312 @@ fn sink_of(alloc: Global, room: usize, failing: &[u64]) -> Result<MemorySink, Fa
     MemorySink::new(alloc, room, 7, failing).map_err(|_| "room".into())
 }
 
-fn assert_run(rt: &impl Abort, alloc: Global, run: &Run) -> Result<(), Fail> {
-    let words = words_of(alloc, run.words)?;
-    let text = Vec::from_slice(alloc, run.text)?;
-    let mut source = MemorySource::new(text, 16, Vec::from_slice(alloc, run.failing)?);
-    let mut out = sink_of(alloc, run.room, &[])?;
+/// The first word of a row.
+fn command_of<'a>(row: &Row<'a>) -> &'a str {
+    row.words.first().copied().unwrap_or("no words")
+}
+
+fn assert_run(rt: &impl Abort, alloc: Global, row: &Row) -> Result<(), Fail> {
+    let (name, command) = (row.name, command_of(row));
+    let words = words_of(alloc, row.words)?;
+    let text = Vec::from_slice(alloc, row.text)?;
+    let mut source = MemorySource::new(text, 16, Vec::from_slice(alloc, row.failing)?);
+    let mut out = sink_of(alloc, row.room, &[])?;
     let mut notes = sink_of(alloc, 100, &[])?;
     let status = run_alone(alloc, words.as_slice(), &mut source, &mut out, &mut notes);
-    assert_eq!(rt; status, run.status);
-    assert_eq!(rt; out.bytes(), run.written);
-    assert_eq!(rt; notes.bytes(), run.note);
+    assert_eq!(rt; status, row.status, "{name}, {command}");
+    assert_eq!(rt;
+        out.bytes(),
+        row.written,
+        "{name}, {command}: what was written"
+    );
+    assert_eq!(rt;
+        notes.bytes(),
+        row.line,
+        "{name}, {command}: the line for the user"
+    );
     Ok(())
 }
 
-/// How a run on a long text ends.
-fn status_of(alloc: Global, words: &[&str], text: &[u8]) -> Result<Status, Fail> {
-    let words = words_of(alloc, words)?;
-    let mut source = PlainSource::new(text);
-    let mut out = sink_of(alloc, 200_000, &[])?;
+/// A run on a long text.
+fn assert_long(rt: &impl Abort, alloc: Global, row: &Row) -> Result<(), Fail> {
+    let (name, command) = (row.name, command_of(row));
+    let words = words_of(alloc, row.words)?;
+    let mut source = PlainSource::new(row.text);
+    let mut out = sink_of(alloc, row.room, &[])?;
     let mut notes = sink_of(alloc, 100, &[])?;
-    Ok(run_alone(alloc, words.as_slice(), &mut source, &mut out, &mut notes))
-}
-
-/// A run of `draw --plain` on a text whose tree is no drawing, or whose places are none.
-fn refused<'a>(text: &'a [u8], why: Why, note: &'a [u8]) -> Run<'a> {
-    ended(text, Status::Refused(why), note)
+    let status = run_alone(alloc, words.as_slice(), &mut source, &mut out, &mut notes);
+    assert_eq!(rt; status, row.status, "{name}, {command}");
+    assert!(rt;
+        out.bytes() == row.written,
+        "{name}, {command}: what was written"
+    );
+    assert_eq!(rt;
+        notes.bytes(),
+        row.line,
+        "{name}, {command}: the line for the user"
+    );
+    Ok(())
 }
 
 #[test]
-fn draws_rows(rt: HostRuntime) -> Result<(), Fail> {
-    let not_yet = Status::Refused(Why::NotYet);
-    let note = b"refused: not built yet\n".as_slice();
-    let cases = [
-        drawn(TWO_NODES, TWO_NODES_DRAWN),
-        drawn(ONE_NODE, ONE_NODE_DRAWN),
-        drawn(HALF_STEPS, ONE_NODE_DRAWN),
-        drawn(WITH_CREATOR, WITH_CREATOR_DRAWN),
-        drawn(EDGE_FIRST, EDGE_FIRST_DRAWN),
-        ended(FROM_EAST_TO_WEST, not_yet, note),
-        ended(STRAIGHT_POINT, not_yet, note),
-        ended(HOOK, not_yet, note),
-        // Words that ask for nothing: the read that would fail is not made.
-        Run {
-            words: &["draw"],
-            failing: &[1],
-            ..ended(TWO_NODES, Status::BadWords, USAGE)
+fn draws_and_counts(rt: HostRuntime) -> Result<(), Fail> {
+    let not_yet = b"refused: not built yet\n".as_slice();
+    let rows = [
+        drawn("two nodes", TWO_NODES, TWO_NODES_DRAWN),
+        drawn("one node", ONE_NODE, ONE_NODE_DRAWN),
+        drawn("a half step", HALF_STEPS, ONE_NODE_DRAWN),
+        drawn("a creator and a comment", WITH_CREATOR, WITH_CREATOR_DRAWN),
+        drawn("an edge before its nodes", EDGE_FIRST, EDGE_FIRST_DRAWN),
+        refused("from east to west", FROM_EAST_TO_WEST, Why::NotYet, not_yet),
+        refused("a straight point", STRAIGHT_POINT, Why::NotYet, not_yet),
+        refused("a hook", HOOK, Why::NotYet, not_yet),
+        Row {
+            words: CHECK,
+            ..drawn(
+                "a hook is counted",
+                HOOK,
+                b"drawing: 5 vertices, 4 pieces\n",
+            )
         },
-        Run {
-            words: &["check", "x"],
-            failing: &[1],
-            ..ended(TWO_NODES, Status::BadWords, USAGE)
-        },
-        Run {
-            words: &[],
-            failing: &[1],
-            ..ended(TWO_NODES, Status::BadWords, USAGE)
-        },
-        // A sink with too little room, and a read that fails.
-        Run {
+    ];
+    for row in &rows {
+        assert_run(&rt, rt.alloc(), row)?;
+    }
+    Ok(())
+}
+
+/// Words that ask for nothing: the read that would fail is not made.
+fn bad_words<'a>(name: &'a str, words: &'a [&'a str]) -> Row<'a> {
+    Row {
+        words,
+        failing: &[1],
+        ..ended(name, TWO_NODES, Status::BadWords, USAGE)
+    }
+}
+
+#[test]
+fn ends_by_words_and_faults(rt: HostRuntime) -> Result<(), Fail> {
+    let rows = [
+        bad_words("an option is missing", &["draw"]),
+        bad_words("a word too many", &["check", "x"]),
+        bad_words("no words", &[]),
+        Row {
             room: 10,
             written: b"graph [\n  ",
-            ..ended(TWO_NODES, Status::WriteFault, b"write fault\n")
+            ..ended(
+                "too little room",
+                TWO_NODES,
+                Status::WriteFault,
+                b"write fault\n",
+            )
         },
-        Run {
+        Row {
             failing: &[2],
-            ..ended(TWO_NODES, Status::ReadFault, b"read fault\n")
-        },
-        // How many vertices and pieces there are.
-        Run {
-            words: &["check"],
-            ..drawn(HOOK, b"drawing: 5 vertices, 4 pieces\n")
+            ..ended(
+                "a read fails",
+                TWO_NODES,
+                Status::ReadFault,
+                b"read fault\n",
+            )
         },
     ];
-    for case in &cases {
-        assert_run(&rt, rt.alloc(), case)?;
+    for row in &rows {
+        assert_run(&rt, rt.alloc(), row)?;
+    }
+    Ok(())
+}
+
+/// Two runs on a text that holds no drawing: of `draw --plain` and of `check`.
+fn assert_refused(rt: &impl Abort, alloc: Global, row: &Row) -> Result<(), Fail> {
+    assert_run(rt, alloc, row)?;
+    assert_run(
+        rt,
+        alloc,
+        &Row {
+            words: CHECK,
+            ..*row
+        },
+    )
+}
+
+/// A run of `draw --plain` on a text whose tree is no drawing.
+fn no_drawing<'a>(name: &'a str, text: &'a [u8], fault: DrawFault, line: &'a [u8]) -> Row<'a> {
+    refused(name, text, Why::Draw(fault), line)
+}
+
+/// A run of `draw --plain` on a text with a numeral at byte 35 that is no coordinate.
+fn no_number<'a>(name: &'a str, text: &'a [u8], cause: NumberFault, line: &'a [u8]) -> Row<'a> {
+    no_drawing(name, text, DrawFault::BadNumber { at: 35, cause }, line)
+}
+
+#[test]
+fn refuses_graphs_and_nodes(rt: HostRuntime) -> Result<(), Fail> {
+    let two_graphs = b"graph [ ] graph [ ]";
+    let bad_id = b"graph [ node [ id 1.5 ] ]";
+    let no_place = b"graph [ node [ id 7 ] ]";
+    let too_fine = b"refused: number too fine at byte 35\n";
+    let far_out = b"refused: number out of range at byte 35\n";
+    let rows = [
+        no_drawing("no graph", b"", DrawFault::NoGraph, b"refused: no graph\n"),
+        no_drawing(
+            "two graphs",
+            two_graphs,
+            DrawFault::TwoGraphs,
+            b"refused: two graphs\n",
+        ),
+        no_drawing(
+            "no node",
+            b"graph [ ]",
+            DrawFault::Empty,
+            b"refused: no node\n",
+        ),
+        no_drawing(
+            "no id",
+            NO_ID,
+            DrawFault::NoId(1),
+            b"refused: node 1 has no id\n",
+        ),
+        no_drawing(
+            "a bad id",
+            bad_id,
+            DrawFault::BadId(0),
+            b"refused: node 0 has a bad id\n",
+        ),
+        no_drawing(
+            "an id twice",
+            ID_TWICE,
+            DrawFault::RepeatedId(1),
+            ID_TWICE_LINE,
+        ),
+        no_drawing(
+            "no place",
+            no_place,
+            DrawFault::NoPlace(0),
+            b"refused: node 0 has no place\n",
+        ),
+        no_number("too fine", TOO_FINE, NumberFault::TooFine, too_fine),
+        no_number("out of range", FAR_OUT, NumberFault::OutOfRange, far_out),
+    ];
+    for row in &rows {
+        assert_refused(&rt, rt.alloc(), row)?;
     }
     Ok(())
 }
 
 #[test]
-fn refuses_trees_that_are_no_drawing(rt: HostRuntime) -> Result<(), Fail> {
-    let too_fine = DrawFault::BadNumber {
-        at: 35,
-        cause: NumberFault::TooFine,
-    };
-    let cases = [
-        refused(b"", Why::Draw(DrawFault::NoGraph), b"refused: no graph\n"),
-        refused(
-            b"graph [ ]",
-            Why::Draw(DrawFault::Empty),
-            b"refused: no node\n",
+fn refuses_edges(rt: HostRuntime) -> Result<(), Fail> {
+    let bad_point = DrawFault::BadPoint { edge: 0, point: 1 };
+    let rows = [
+        no_drawing(
+            "no end",
+            NO_END,
+            DrawFault::NoEnd(1),
+            b"refused: edge 1 lacks an end\n",
         ),
-        refused(
-            TOO_FINE,
-            Why::Draw(too_fine),
-            b"refused: number too fine at byte 35\n",
-        ),
-        refused(
-            ID_TWICE,
-            Why::Draw(DrawFault::RepeatedId(1)),
-            b"refused: node 1 repeats an id\n",
-        ),
-        refused(
+        no_drawing(
+            "unknown end",
             UNKNOWN_END,
-            Why::Draw(DrawFault::UnknownEnd(0)),
-            b"refused: edge 0 names no node\n",
+            DrawFault::UnknownEnd(0),
+            UNKNOWN_END_LINE,
+        ),
+        no_drawing(
+            "bad point",
+            BAD_POINT,
+            bad_point,
+            b"refused: edge 0 has a bad point 1\n",
         ),
     ];
-    for case in &cases {
-        assert_run(&rt, rt.alloc(), case)?;
-        assert_run(
-            &rt,
-            rt.alloc(),
-            &Run {
-                words: &["check"],
-                ..*case
-            },
-        )?;
+    for row in &rows {
+        assert_refused(&rt, rt.alloc(), row)?;
     }
     Ok(())
 }
 
-/// A run on a text in which two pieces meet, at a point with y 0.
-fn meeting<'a>(text: &'a [u8], p: u32, q: u32, x: i64, note: &'a [u8]) -> Run<'a> {
-    refused(
-        text,
-        Why::Shape(ShapeFault::Meeting { p, q, x, y: 0 }),
-        note,
-    )
+/// A run of `draw --plain` on a text whose places are no drawing.
+fn no_shape<'a>(name: &'a str, text: &'a [u8], fault: ShapeFault, line: &'a [u8]) -> Row<'a> {
+    refused(name, text, Why::Shape(fault), line)
+}
+
+/// Two pieces meet at a point with y 0.
+fn meeting(p: u32, q: u32, x: i64) -> ShapeFault {
+    ShapeFault::Meeting { p, q, x, y: 0 }
 }
 
 #[test]
 fn refuses_places_that_are_no_drawing(rt: HostRuntime) -> Result<(), Fail> {
-    let no_length = |piece| Why::Shape(ShapeFault::ZeroPiece(piece));
-    let apart = Why::Shape(ShapeFault::Disconnected(2));
-    let cases = [
-        meeting(
-            CROSSING,
-            0,
-            1,
-            5000,
-            b"refused: pieces 0 and 1 meet at 5000 0\n",
-        ),
-        meeting(
+    let crossing = b"refused: pieces 0 and 1 meet at 5000 0\n";
+    let bend = b"refused: pieces 0 and 3 meet at 5000 0\n";
+    let edge_twice = b"refused: pieces 0 and 1 meet at 0 0\n";
+    let slanted = b"refused: piece 0 is slanted\n";
+    let bend_twice = b"refused: piece 1 has no length\n";
+    let bend_on_a_node = b"refused: piece 2 has no length\n";
+    let apart = b"refused: vertex 2 is not joined\n";
+    let rows = [
+        no_shape("a crossing", CROSSING, meeting(0, 1, 5000), crossing),
+        no_shape(
+            "a bend on a piece",
             BEND_ON_A_PIECE,
-            0,
-            3,
-            5000,
-            b"refused: pieces 0 and 3 meet at 5000 0\n",
+            meeting(0, 3, 5000),
+            bend,
         ),
-        meeting(
-            EDGE_TWICE,
-            0,
-            1,
-            0,
-            b"refused: pieces 0 and 1 meet at 0 0\n",
-        ),
-        refused(
-            SLANTED,
-            Why::Shape(ShapeFault::Slanted(0)),
-            b"refused: piece 0 is slanted\n",
-        ),
-        refused(
+        no_shape("an edge twice", EDGE_TWICE, meeting(0, 1, 0), edge_twice),
+        no_shape("a slanted piece", SLANTED, ShapeFault::Slanted(0), slanted),
+        no_shape(
+            "a bend twice",
             BEND_TWICE,
-            no_length(1),
-            b"refused: piece 1 has no length\n",
+            ShapeFault::ZeroPiece(1),
+            bend_twice,
         ),
-        refused(
+        no_shape(
+            "a bend on a node",
             BEND_ON_A_NODE,
-            no_length(2),
-            b"refused: piece 2 has no length\n",
+            ShapeFault::ZeroPiece(2),
+            bend_on_a_node,
         ),
-        refused(TWO_PARTS, apart, b"refused: vertex 2 is not joined\n"),
-        refused(NODE_ON_A_NODE, apart, b"refused: vertex 2 is not joined\n"),
+        no_shape("two parts", TWO_PARTS, ShapeFault::Disconnected(2), apart),
+        no_shape(
+            "a node on a node",
+            NODE_ON_A_NODE,
+            ShapeFault::Disconnected(2),
+            apart,
+        ),
     ];
-    for case in &cases {
-        assert_run(&rt, rt.alloc(), case)?;
+    for row in &rows {
+        assert_refused(&rt, rt.alloc(), row)?;
     }
     Ok(())
 }
 
-/// Texts without a tree, with their first faults and what the user is told.
-const NO_GML: [(&[u8], GmlKind, u32, &[u8]); 8] = [
-    (
-        b"a b",
-        GmlKind::BadValue,
-        2,
-        b"refused: bad value at byte 2\n",
-    ),
-    (
-        b"a 1.2.3",
-        GmlKind::BadNumeral,
-        2,
-        b"refused: bad numeral at byte 2\n",
-    ),
-    (
-        b"a \"x",
-        GmlKind::OpenString,
-        2,
-        b"refused: string not closed at byte 2\n",
-    ),
-    (b"1a 2", GmlKind::BadKey, 0, b"refused: bad key at byte 0\n"),
-    (
-        b"a-b 1",
-        GmlKind::BadKey,
-        0,
-        b"refused: bad key at byte 0\n",
-    ),
-    (
-        b"graph [",
-        GmlKind::OpenList,
-        6,
-        b"refused: list not closed at byte 6\n",
-    ),
-    (
-        b"]",
-        GmlKind::StrayClose,
-        0,
-        b"refused: stray close at byte 0\n",
-    ),
-    (
-        LISTS_65,
-        GmlKind::TooDeep,
-        129,
-        b"refused: too deep at byte 129\n",
-    ),
-];
-
 #[test]
 fn refuses_what_is_no_gml(rt: HostRuntime) -> Result<(), Fail> {
-    for (text, kind, at, note) in NO_GML {
-        assert_run(&rt, rt.alloc(), &faulty(text, kind, at, note))?;
-    }
+    use GmlKind::{BadKey, BadNumeral, BadValue, OpenList, OpenString, StrayClose, TooDeep};
+    let bad_value = b"refused: bad value at byte 2\n";
+    let bad_numeral = b"refused: bad numeral at byte 2\n";
+    let open_string = b"refused: string not closed at byte 2\n";
+    let bad_key = b"refused: bad key at byte 0\n";
+    let open_list = b"refused: list not closed at byte 6\n";
+    let stray_close = b"refused: stray close at byte 0\n";
+    let too_deep = b"refused: too deep at byte 129\n";
     // The first bytes of a text, up to an id and up to its key.
-    let up_to_id = faulty(
-        &TWO_NODES[..21],
-        GmlKind::OpenList,
-        15,
-        b"refused: list not closed at byte 15\n",
-    );
-    let up_to_key = faulty(
-        &TWO_NODES[..19],
-        GmlKind::BadValue,
-        19,
-        b"refused: bad value at byte 19\n",
-    );
-    assert_run(&rt, rt.alloc(), &up_to_id)?;
-    assert_run(&rt, rt.alloc(), &up_to_key)
+    let up_to_id = b"refused: list not closed at byte 15\n";
+    let up_to_key = b"refused: bad value at byte 19\n";
+    let rows = [
+        no_gml("a word", b"a b", BadValue, 2, bad_value),
+        no_gml("two points", b"a 1.2.3", BadNumeral, 2, bad_numeral),
+        no_gml("an open string", b"a \"x", OpenString, 2, open_string),
+        no_gml("a digit first", b"1a 2", BadKey, 0, bad_key),
+        no_gml("a sign in a key", b"a-b 1", BadKey, 0, bad_key),
+        no_gml("an open list", b"graph [", OpenList, 6, open_list),
+        no_gml("a stray close", b"]", StrayClose, 0, stray_close),
+        no_gml("65 lists", LISTS_65, TooDeep, 129, too_deep),
+        no_gml("up to an id", &TWO_NODES[..21], OpenList, 15, up_to_id),
+        no_gml("up to a key", &TWO_NODES[..19], BadValue, 19, up_to_key),
+    ];
+    for row in &rows {
+        assert_run(&rt, rt.alloc(), row)?;
+    }
+    Ok(())
 }
 
 #[test]
@@ -327,22 +396,16 @@ fn a_note_that_cannot_be_written_changes_no_status(rt: HostRuntime) -> Result<()
     let mut out = sink_of(alloc, 10, &[])?;
     let mut notes = sink_of(alloc, 100, &[1])?;
     let status = run_alone(alloc, words.as_slice(), &mut source, &mut out, &mut notes);
-    let fault = ShapeFault::Meeting {
-        p: 0,
-        q: 1,
-        x: 5000,
-        y: 0,
-    };
-    assert_eq!(rt; status, Status::Refused(Why::Shape(fault)));
+    assert_eq!(rt; status, Status::Refused(Why::Shape(meeting(0, 1, 5000))));
     assert_eq!(rt; notes.bytes(), b"".as_slice());
     Ok(())
 }
 
-/// The text of a row of so many nodes, with an edge between neighbours.
+/// The text of a row of so many nodes, 10 apart from 7 on, with an edge between neighbours.
 fn row_text(alloc: Global, nodes: u32) -> Result<String, AllocError> {
     let mut text = String::from_str(alloc, "graph [\n")?;
     for k in 0..nodes {
-        let node = format!(in alloc; "  node [ id {k} graphics [ x {k} y 0 ] ]\n")?;
+        let node = format!(in alloc; "  node [ id {k} graphics [ x {k}7 y -3 ] ]\n")?;
         text.push_str(node.as_str())?;
     }
     for k in 1..nodes {
@@ -354,26 +417,91 @@ fn row_text(alloc: Global, nodes: u32) -> Result<String, AllocError> {
     Ok(text)
 }
 
-#[test]
-fn reads_up_to_a_thousand_vertices(rt: HostRuntime) -> Result<(), Fail> {
-    let many = Why::Draw(DrawFault::TooManyVertices(1001));
-    for (nodes, status) in [(1000, Status::Done), (1001, Status::Refused(many))] {
-        let text = row_text(rt.alloc(), nodes)?;
-        assert_eq!(rt; status_of(rt.alloc(), PLAIN, text.as_bytes())?, status);
+/// What is written for it: node k stands at (k, 0).
+fn row_drawn(alloc: Global, nodes: u32) -> Result<String, AllocError> {
+    let mut text = String::from_str(alloc, "graph [\n")?;
+    for k in 0..nodes {
+        let head = format!(in alloc; "  node [\n    id {k}\n    graphics [\n")?;
+        text.push_str(head.as_str())?;
+        let place = format!(in alloc; "      x {k}\n      y 0\n    ]\n  ]\n")?;
+        text.push_str(place.as_str())?;
     }
-    Ok(())
+    for k in 1..nodes {
+        let from = k - 1;
+        let edge = format!(in alloc; "  edge [\n    source {from}\n    target {k}\n  ]\n")?;
+        text.push_str(edge.as_str())?;
+    }
+    text.push_str("]\n")?;
+    Ok(text)
 }
 
 #[test]
-fn refuses_a_text_past_the_limit(rt: HostRuntime) -> Result<(), Fail> {
-    let long = Status::Refused(Why::TooLong);
-    for (length, status) in [(4_194_304usize, Status::Done), (4_194_305, long)] {
-        let mut text = Vec::from_slice(rt.alloc(), TWO_NODES)?;
-        let hashes = vec![in rt.alloc(); b'#'; length.saturating_sub(TWO_NODES.len())]?;
-        text.extend_from_slice(hashes.as_slice())?;
-        for words in [PLAIN, &["check"]] {
-            assert_eq!(rt; status_of(rt.alloc(), words, text.as_slice())?, status);
-        }
+fn reads_up_to_a_thousand_vertices(rt: HostRuntime) -> Result<(), Fail> {
+    let alloc = rt.alloc();
+    let (most, more) = (row_text(alloc, 1000)?, row_text(alloc, 1001)?);
+    let written = row_drawn(alloc, 1000)?;
+    let row = Row {
+        room: 200_000,
+        ..drawn("1,000 nodes", most.as_bytes(), written.as_bytes())
+    };
+    assert_long(&rt, alloc, &row)?;
+    let fault = DrawFault::TooManyVertices(1001);
+    let row = no_drawing(
+        "1,001 nodes",
+        more.as_bytes(),
+        fault,
+        b"refused: 1001 vertices\n",
+    );
+    assert_long(&rt, alloc, &row)
+}
+
+#[test]
+fn reads_up_to_four_thousand_pieces(rt: HostRuntime) -> Result<(), Fail> {
+    let mut text = String::from_str(rt.alloc(), "graph [ node [ id 0 graphics [ x 0 y 0 ] ]")?;
+    for _ in 0..4001 {
+        text.push_str(" edge [ source 0 target 0 ]")?;
     }
-    Ok(())
+    text.push_str(" ]")?;
+    let fault = DrawFault::TooManyPieces(4001);
+    let row = no_drawing(
+        "4,001 pieces",
+        text.as_bytes(),
+        fault,
+        b"refused: 4001 pieces\n",
+    );
+    assert_long(&rt, rt.alloc(), &row)
+}
+
+/// A text with a comment behind it that makes it so long.
+fn with_comment(alloc: Global, text: &[u8], length: usize) -> Result<Vec<u8>, AllocError> {
+    let mut long = Vec::from_slice(alloc, text)?;
+    let hashes = vec![in alloc; b'#'; length.saturating_sub(text.len())]?;
+    long.extend_from_slice(hashes.as_slice())?;
+    Ok(long)
+}
+
+#[test]
+fn reads_up_to_the_limit(rt: HostRuntime) -> Result<(), Fail> {
+    let alloc = rt.alloc();
+    let most = with_comment(alloc, TWO_NODES, 4_194_304)?;
+    let row = drawn("4 MiB", most.as_slice(), TWO_NODES_DRAWN);
+    assert_long(&rt, alloc, &row)?;
+    let counted = Row {
+        words: CHECK,
+        written: b"drawing: 2 vertices, 1 pieces\n",
+        ..row
+    };
+    assert_long(&rt, alloc, &counted)?;
+    let more = with_comment(alloc, TWO_NODES, 4_194_305)?;
+    let line = b"refused: more than 4194304 bytes\n";
+    let row = refused("4 MiB and a byte", more.as_slice(), Why::TooLong, line);
+    assert_long(&rt, alloc, &row)?;
+    assert_long(
+        &rt,
+        alloc,
+        &Row {
+            words: CHECK,
+            ..row
+        },
+    )
 }

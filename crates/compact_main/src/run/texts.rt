@@ -81,8 +81,10 @@ graph [
 ]
 ";
 
-pub const LISTS_65: &[u8] =
-    b"a[a[a[a[a[a[a[a[a[a[a[a[a[a[a[a[a[a[a[a[a[a[a[a[a[a[a[a[a[a[a[a[a[a[a[a[a[a[a[a[a[a[a[a[a[a[a[a[a[a[a[a[a[a[a[a[a[a[a[a[a[a[a[a[a[";
+/// 65 lists, each in the one before it.
+pub const LISTS_65: &[u8] = b"\
+    a[a[a[a[a[a[a[a[a[a[a[a[a[a[a[a[a[a[a[a[a[a[a[a[a[a[a[a[a[a[a[a[\
+    a[a[a[a[a[a[a[a[a[a[a[a[a[a[a[a[a[a[a[a[a[a[a[a[a[a[a[a[a[a[a[a[a[";
 
 pub const HALF_STEPS: &[u8] = b"graph [\n  node [ id 0 graphics [ x 3.5 y -2 ] ]\n]\n";
 
@@ -133,7 +135,9 @@ pub const BEND_ON_A_NODE: &[u8] = b"graph [
   node [ id 1 graphics [ x 5 y 4 ] ]
   node [ id 2 graphics [ x 5 y 9 ] ]
   edge [ source 0 target 1 ]
-  edge [ source 1 target 2 graphics [ Line [ point [ x 5 y 4 ] point [ x 5 y 9 ] point [ x 5 y 9 ] ] ] ]
+  edge [ source 1 target 2 graphics [ Line [
+    point [ x 5 y 4 ] point [ x 5 y 9 ] point [ x 5 y 9 ]
+  ] ] ]
 ]
 ";
 
@@ -220,5 +224,33 @@ pub const EDGE_FIRST_DRAWN: &[u8] = b"graph [
       y 0
     ]
   ]
+]
+";
+
+pub const ID_TWICE_LINE: &[u8] = b"refused: node 1 repeats an id\n";
+
+pub const UNKNOWN_END_LINE: &[u8] = b"refused: edge 0 names no node\n";
+
+pub const NO_ID: &[u8] = b"graph [
+  node [ id 0 graphics [ x 0 y 0 ] ]
+  node [ graphics [ x 5 y 0 ] ]
+]
+";
+
+pub const FAR_OUT: &[u8] = b"graph [
+  node [ id 0 graphics [ x 10000000000.001 y 0 ] ]
+]
+";
+
+pub const NO_END: &[u8] = b"graph [
+  node [ id 1 graphics [ x 0 y 0 ] ]
+  edge [ source 1 target 1 ]
+  edge [ source 1 ]
+]
+";
+
+pub const BAD_POINT: &[u8] = b"graph [
+  node [ id 1 graphics [ x 0 y 0 ] ]
+  edge [ source 1 target 1 graphics [ Line [ point [ x 0 y 5 ] point [ x 5 ] ] ] ]
 ]
 ";

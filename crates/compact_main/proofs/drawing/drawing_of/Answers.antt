@@ -1,11 +1,32 @@
-use Rattle.compact_main.proofs.ReadingLimits.{reading_can_be_checked}
-use Rattle.compact_main.proofs.Refusals.{shape_refused}
+use Rattle.std.proofs.Common.{Err}
+use Rattle.compact_types.specs.declared.plan.Shape.{Shape as AnyShape}
+use Rattle.compact_types.proofs.Laws.{decides_by_one_answer}
+use Rattle.drawing_check.specs.Faults.{FirstShapeFault}
+use Rattle.compact_main.specs.declared.drawing.Drawing.{Drawing}
+use Rattle.compact_main.specs.declared.status.Why.TheVariants.{Shape as Figure}
+use Rattle.compact_main.specs.Drawings.{FirstTextFault}
+use Rattle.compact_main.proofs.Refusals.{told}
+use Rattle.compact_main.proofs.TextAnswers.{can_check, text_answer}
 use Rattle.compact_main.proofs.drawing.drawing_of.Goals as goal
 
 pub check-requires : goal.check-requires
-check-requires c = reading_can_be_checked c.in-Ok.tree c.in-Ok-read_drawing.reading c.in-Ok-read_drawing.ensures.reading
+check-requires c = can_check c.in-Ok-read_drawing.reading c.in-Ok-read_drawing.ensures.limits
 
-pub returns-in-Err-check-clause-fault : goal.returns-in-Err-check-clause-fault
-returns-in-Err-check-clause-fault c = rw c.as_shape.ensures
-    (shape_refused c.args.bytes.now c.in-Ok.tree c.in-Ok-read_drawing.reading c.in-Err-check.refusal c.in-Ok.ensures.tree
-    c.in-Ok-read_drawing.ensures.reading c.in-Err-check.ensures.fault)
+pub returns-in-Err-check : goal.returns-in-Err-check
+returns-in-Err-check c =
+    let tree = c.in-Ok.tree in
+    let reading = c.in-Ok-read_drawing.reading in
+    decides_by_one_answer (Err c.map-in-Err-check.result) tt
+    (told AnyShape Drawing c.in-Err-check.refusal c.map-in-Err-check.result (λ fault. Figure fault)
+    (FirstShapeFault reading.plan reading.places) (FirstTextFault c.args.bytes.now)
+    (λ fault first. (tree, reading, c.in-Ok.ensures.decides.value, c.in-Ok-read_drawing.ensures.decides.value, first))
+    c.in-Err-check.ensures.decides.fault c.map-in-Err-check.ensures)
+    (text_answer c.args.bytes.now)
+
+pub returns : goal.returns
+returns c =
+    decides_by_one_answer _ (record {
+      spelled = c.in-Ok.ensures.decides.value;
+      read = c.in-Ok-read_drawing.ensures.decides.value;
+      checked = c.in-Ok-check.ensures.decides.value;
+    }) tt (text_answer c.args.bytes.now)

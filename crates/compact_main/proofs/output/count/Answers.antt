@@ -1,0 +1,8 @@
+use Rattle.compact_main.proofs.output.count.Goals as goal
+
+pub returns-clause-output : goal.returns-clause-output
+returns-clause-output c = (
+  c.in_ok-drawing.drawing,
+  record { within = c.requires; holds = c.in_ok-drawing.ensures.value },
+  c.in_ok-count_line.ensures,
+)

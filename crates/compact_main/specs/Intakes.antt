@@ -1,0 +1,41 @@
+-- What a command reads of its source before it answers.
+use Rattle.std.specs.Prelude.{◌≡◌, ℕ, ◌≤◌, List, length, Option, Some}
+use Rattle.std.specs.Io.KnownBytes.{Consumes, IsAtEnd}
+use Rattle.io_ends.specs.Counts.{Rose}
+use Rattle.compact_main.specs.declared.command.Command.{Command}
+use Rattle.compact_main.specs.declared.command.Command.TheVariants.{Draw, Check}
+use Rattle.compact_main.specs.declared.command.TheConstants.{MOST_INPUT_BYTES}
+
+-- a text of at most so many bytes, to its end
+pub data Intake : Type 0 where
+  a_text : ℕ → Intake
+
+abbrev pub intake_of : Command → Intake
+intake_of Draw = a_text MOST_INPUT_BYTES
+intake_of Check = a_text MOST_INPUT_BYTES
+
+-- the most bytes of it
+abbrev pub most_of : Intake → ℕ
+most_of (a_text limit) = limit
+
+-- how many bytes the command reads at most
+abbrev pub limit_of : Command → ℕ
+limit_of command = most_of (intake_of command)
+
+-- these bytes were taken from the source
+abbrev pub Takes : {S : Type 0} → Intake → (S → Option (List ℕ)) → S → S → List ℕ → Type 0
+Takes (a_text limit) left source source' bytes = Consumes (left source) (left source') bytes
+
+-- nothing is left to be read
+abbrev pub IsReadOut : {S : Type 0} → Intake → (S → Option (List ℕ)) → S → Type 0
+IsReadOut (a_text limit) left source' = IsAtEnd (left source')
+
+-- a read may fail once these bytes were taken
+abbrev pub MayFailAfter : Intake → List ℕ → Type 0
+MayFailAfter (a_text limit) bytes = length bytes ≤ limit
+
+-- the source tells that this is its text, and no read of it failed
+abbrev pub IsGiven : {S : Type 0} →
+    Intake → (S → Option (List ℕ)) → (S → ℕ) → S → S → List ℕ → Type 0
+IsGiven (a_text limit) left faults source source' text =
+    (left source ≡ Some text) × (Rose (faults source) (faults source') → ⊥)

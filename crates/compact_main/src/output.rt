@@ -1,0 +1,85 @@
+//! What a command writes for a text, or why it refuses it.
+
+ghost use Rattle.std.specs.Prelude.{◌≡◌, ◌≤◌, length, IfOk};
+ghost use Rattle.compact_types.specs.Refusals.{IfFault};
+ghost use Rattle.compact_types.specs.Bests.{total_length, IsBest};
+ghost use Rattle.drawing_read.specs.Readings.{IsReading};
+ghost use Rattle.drawing_check.specs.Shapes.{IsShapeOf};
+ghost use Rattle.compact_main.specs.Drawings.{IsRow};
+ghost use Rattle.compact_main.specs.Intakes.{limit_of};
+ghost use Rattle.compact_main.specs.Outputs as outputs;
+ghost use Rattle.compact_main.specs.Outputs.{DrawsRow, Output, FirstFault};
+
+use crate::command::Command;
+use crate::drawing::{Drawing, drawing_of};
+use crate::rows::best_places;
+use crate::status::Why;
+use compact_types::{Items, NoMemory, Places, Plan, Refusal};
+use gml_print::{print_tree, with_places};
+use itoa::Buffer;
+use std::alloc::Global;
+
+/// What the command writes for a text, or why it refuses it.
+pub(crate) fn answer(
+    alloc: Global,
+    command: Command,
+    bytes: &[u8],
+) -> Result<Items<u8>, Refusal<Why>>
+    requires { length bytes.now ≤ limit_of command }
+    ensures output { IfOk result (Output command bytes.now) }
+    ensures fault { IfFault result (FirstFault command bytes.now) }
+{
+    match command {
+        Command::Draw => draw(alloc, bytes),
+        Command::Check => count(alloc, bytes),
+    }
+}
+
+/// The text of the tree with the shortest places of its shape, where that is a row.
+fn draw(alloc: Global, bytes: &[u8]) -> Result<Items<u8>, Refusal<Why>>
+    requires { length bytes.now ≤ limit_of Command.Draw }
+    ensures output { IfOk result (Output Command.Draw bytes.now) }
+    ensures fault { IfFault result (FirstFault Command.Draw bytes.now) }
+{
+    let drawing = drawing_of(alloc, bytes)?;
+    match best_places(alloc, &drawing.shape)? {
+        Some(places) => Ok(drawn(alloc, drawing, &places)?),
+        None => Err(Refusal::Fault(Why::NotYet)),
+    }
+}
+
+/// The tree of the drawing, printed with the best places of its shape, which is a row.
+fn drawn(alloc: Global, drawing: Drawing, places: &Places) -> Result<Items<u8>, NoMemory>
+    requires read { IsReading drawing.tree drawing.reading }
+    requires shape { IsShapeOf drawing.reading.plan drawing.reading.places drawing.shape }
+    requires row { IsRow drawing.shape }
+    requires best { IsBest total_length drawing.shape places.now }
+    ensures { IfOk result (DrawsRow drawing places.now) }
+{
+    let Drawing { tree, reading, .. } = drawing;
+    let tree = with_places(alloc, tree, &reading, places, 1)?;
+    print_tree(alloc, &tree)
+}
+
+/// How many vertices and pieces the text's drawing has.
+fn count(alloc: Global, bytes: &[u8]) -> Result<Items<u8>, Refusal<Why>>
+    requires { length bytes.now ≤ limit_of Command.Check }
+    ensures output { IfOk result (Output Command.Check bytes.now) }
+    ensures fault { IfFault result (FirstFault Command.Check bytes.now) }
+{
+    let drawing = drawing_of(alloc, bytes)?;
+    Ok(count_line(alloc, &drawing.reading.plan)?)
+}
+
+/// The line that says how many vertices and pieces the plan has.
+fn count_line(alloc: Global, plan: &Plan) -> Result<Items<u8>, NoMemory>
+    ensures { IfOk result (λ line. line ≡ outputs.count_line plan.now) }
+{
+    let mut buffer = Buffer::new();
+    let mut line = Items::from_slice(alloc, b"drawing: ")?;
+    line.extend_from_slice(buffer.format(plan.vertices).as_bytes())?;
+    line.extend_from_slice(b" vertices, ")?;
+    line.extend_from_slice(buffer.format(plan.pieces.len()).as_bytes())?;
+    line.extend_from_slice(b" pieces\n")?;
+    Ok(line)
+}
