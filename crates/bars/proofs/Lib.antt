@@ -1,0 +1,17 @@
+pub mod Joining
+pub mod Numbering
+pub mod Searches
+pub mod Climbing
+pub mod Standing
+pub mod LineEnds
+pub mod SegmentLists
+pub mod SegmentEnds
+pub mod LineOrder
+pub mod NodeBounds
+pub mod FewSegments
+pub mod Laws
+pub mod LineTables
+pub mod MarkTables
+pub mod CrossingTable
+pub mod SpanTable
+pub mod Sharing

@@ -1,0 +1,6 @@
+pub mod Lines
+pub mod Segments
+pub mod Ends
+pub mod Sides
+pub mod Solutions
+pub mod inner
