@@ -1,0 +1,17 @@
+pub mod ListCases
+pub mod TrailLemmas
+pub mod PassLemmas
+pub mod LinkLemmas
+pub mod RoundLemmas
+pub mod PathLemmas
+pub mod TurnLemmas
+pub mod SolutionLemmas
+pub mod SimpleLemmas
+pub mod FilterMaps
+pub mod GraphArcs
+pub mod Solving
+pub mod Laws
+pub mod FewArcs
+pub mod GraphFacts
+pub mod Existence
+pub mod Pushing

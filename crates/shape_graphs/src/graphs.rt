@@ -1,0 +1,223 @@
+//! The constraint graphs of a shape and a list of choices.
+
+ghost use Rattle.std.specs.Prelude.{◌≡◌, ◌<◌, ◌++◌, [], pos, length};
+ghost use Rattle.std.specs.Prelude.{IfOk, OnOk, option_to_list};
+ghost use Rattle.compact_types.specs.declared.places.Axis.TheVariants as axis;
+ghost use Rattle.compact_types.specs.Axes as ends;
+ghost use Rattle.compact_types.specs.Lookups.{axis_of};
+ghost use Rattle.bars.specs.Lines as lines;
+ghost use Rattle.bars.specs.Segments as nodes;
+ghost use Rattle.bars.specs.Sides.{side_axis};
+ghost use Rattle.bars.specs.Solutions.{Fit, IsChoice};
+ghost use Rattle.shape_graphs.specs.Graphs as graphs;
+ghost use Rattle.shape_graphs.specs.Graphs.{IsGraphOf, piece_arcs, piece_arc_along, choice_arc_along};
+
+use crate::graph::{Arc, DiffGraph};
+use bars::Bars;
+use compact_types::{Axis, Choice, Extension, Items, NoMemory, Piece, Way};
+use std::alloc::Global;
+
+/// The column graph of the choices, and then their row graph: first an arc for each piece along the
+/// axis, in the order of the pieces, then one for each choice whose side keeps apart along it.
+pub fn graphs_of(
+    alloc: Global,
+    bars: &Bars,
+    extension: &Extension,
+) -> Result<(DiffGraph, DiffGraph), NoMemory>
+    requires { Fit bars.now extension.now.choices }
+    ensures columns { IfOk result (λ graphs.
+        IsGraphOf axis.X bars.now extension.now.choices graphs.0) }
+    ensures rows { IfOk result (λ graphs.
+        IsGraphOf axis.Y bars.now extension.now.choices graphs.1) }
+{
+    let columns = graph_along(alloc, bars, extension, Axis::X)?;
+    let rows = graph_along(alloc, bars, extension, Axis::Y)?;
+    Ok((columns, rows))
+}
+
+/// The graph of an axis.
+fn graph_along(
+    alloc: Global,
+    bars: &Bars,
+    extension: &Extension,
+    axis: Axis,
+) -> Result<DiffGraph, NoMemory>
+    requires { Fit bars.now extension.now.choices }
+    ensures { IfOk result (IsGraphOf axis bars.now extension.now.choices) }
+{
+    let pieces = bars.shape().plan.pieces.len();
+    let mut arcs = Items::from_vec(Vec::with_capacity(alloc, pieces)?);
+    push_pieces(&mut arcs, bars, axis)?;
+    push_choices(&mut arcs, bars, extension.choices.as_slice(), axis)?;
+    let nodes = node_count(bars, axis);
+    Ok(DiffGraph { nodes, arcs })
+}
+
+/// Adds the arcs of the pieces along the axis.
+fn push_pieces(arcs: &mut Items<Arc>, bars: &Bars, axis: Axis) -> Result<(), NoMemory>
+    requires { arcs.old ≡ [] }
+    ensures { OnOk result (arcs.new ≡ piece_arcs axis bars.now) }
+{
+    let count = bars.shape().plan.pieces.len();
+    for i in 0..count {
+        push_some(arcs, piece_arc(bars, axis, i))?;
+    }
+    Ok(())
+}
+
+/// Adds the arcs of the choices whose sides keep apart along the axis.
+fn push_choices(
+    arcs: &mut Items<Arc>,
+    bars: &Bars,
+    choices: &[Choice],
+    axis: Axis,
+) -> Result<(), NoMemory>
+    requires { Fit bars.now choices.now }
+    ensures { OnOk result (arcs.new ≡ arcs.old ++ graphs.choice_arcs axis bars.now choices.now) }
+{
+    for i in 0..choices.len() {
+        push_some(arcs, choice_arc(bars, axis, choices[i]))?;
+    }
+    Ok(())
+}
+
+/// Adds the arc, where there is one.
+fn push_some(arcs: &mut Items<Arc>, arc: Option<Arc>) -> Result<(), NoMemory>
+    ensures { OnOk result (arcs.new ≡ arcs.old ++ option_to_list arc) }
+{
+    if let Some(arc) = arc {
+        arcs.push(arc)?;
+    }
+    Ok(())
+}
+
+/// The arc of a piece, where it goes along the axis.
+fn piece_arc(bars: &Bars, axis: Axis, i: usize) -> Option<Arc>
+    requires { i < length bars.now.plan.pieces }
+    ensures { result ≡ piece_arc_along axis bars.now i }
+{
+    let shape = bars.shape();
+    let piece = shape.plan.pieces.as_slice()[i];
+    let way = shape.ways.as_slice()[i];
+    if !is_axis(axis_of_way(way), axis) {
+        return None;
+    }
+    Some(Arc {
+        from: node_of(bars, axis, low_end(way, piece)),
+        to: node_of(bars, axis, high_end(way, piece)),
+        least: 1,
+        pull: 1,
+    })
+}
+
+/// The arc of a choice, where its side keeps apart along the axis.
+fn choice_arc(bars: &Bars, axis: Axis, choice: Choice) -> Option<Arc>
+    requires { IsChoice bars.now choice }
+    ensures { result ≡ choice_arc_along axis bars.now choice }
+{
+    if is_axis(axis_of_side(choice.side), axis) {
+        Some(side_arc(bars, choice))
+    } else {
+        None
+    }
+}
+
+/// From the last node of the segment that stands first at the side to the first node of the other.
+fn side_arc(bars: &Bars, choice: Choice) -> Arc
+    requires { IsChoice bars.now choice }
+    ensures { result ≡ graphs.side_arc bars.now choice.s choice.t choice.side }
+{
+    let (s, t) = (choice.s, choice.t);
+    match choice.side {
+        0 => apart(bars.right(s), bars.left(t)),
+        1 => apart(bars.right(t), bars.left(s)),
+        2 => apart(bars.high(s), bars.low(t)),
+        _ => apart(bars.high(t), bars.low(s)),
+    }
+}
+
+/// An arc of a choice: its end stands a step behind its beginning, so that the segments share no
+/// point, and its length does not count.
+fn apart(from: u32, to: u32) -> Arc
+    ensures { result ≡ record { from = from; to = to; least = pos 1; pull = pos 0 } }
+{
+    let least = 1;
+    Arc {
+        from,
+        to,
+        least,
+        pull: 0,
+    }
+}
+
+/// How many nodes the graph of the axis has.
+fn node_count(bars: &Bars, axis: Axis) -> u32
+    ensures { result ≡ nodes.node_count axis bars.now }
+{
+    match axis {
+        Axis::X => bars.columns(),
+        Axis::Y => bars.rows(),
+    }
+}
+
+/// The node of the vertex in the graph of the axis.
+fn node_of(bars: &Bars, axis: Axis, v: u32) -> u32
+    requires { v < bars.now.plan.vertices }
+    ensures { result ≡ nodes.node_of axis bars.now v }
+{
+    match axis {
+        Axis::X => bars.column_of(v),
+        Axis::Y => bars.row_of(v),
+    }
+}
+
+/// The western or the lower end of a piece.
+fn low_end(way: Way, piece: Piece) -> u32
+    ensures { result ≡ ends.low_end way piece }
+{
+    match way {
+        Way::East | Way::High => piece.from,
+        Way::West | Way::Low => piece.to,
+    }
+}
+
+/// The eastern or the higher end of a piece.
+fn high_end(way: Way, piece: Piece) -> u32
+    ensures { result ≡ ends.high_end way piece }
+{
+    match way {
+        Way::East | Way::High => piece.to,
+        Way::West | Way::Low => piece.from,
+    }
+}
+
+/// The axis along which a piece with this way goes.
+fn axis_of_way(way: Way) -> Axis
+    ensures { result ≡ axis_of way }
+{
+    match way {
+        Way::East | Way::West => Axis::X,
+        Way::High | Way::Low => Axis::Y,
+    }
+}
+
+/// The axis along which a side keeps apart.
+fn axis_of_side(side: u8) -> Axis
+    ensures { result ≡ side_axis side }
+{
+    match side {
+        0 => Axis::X,
+        1 => Axis::X,
+        _ => Axis::Y,
+    }
+}
+
+/// Whether the two are one axis.
+fn is_axis(a: Axis, b: Axis) -> bool
+    ensures { result ≡ lines.is_axis a b }
+{
+    match a {
+        Axis::X => matches!(b, Axis::X),
+        Axis::Y => matches!(b, Axis::Y),
+    }
+}
