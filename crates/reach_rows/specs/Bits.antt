@@ -1,0 +1,33 @@
+-- Rows of bits in one flat list of words of 64 bits, each row with the same number of words.
+use Rattle.std.specs.Prelude.{◌≡◌, ◌↔◌, ◌⊎◌, ℕ, ◌+◌, ◌*◌, ◌/◌, ◌%◌, ◌<◌, List, slice_index}
+use Rattle.std.specs.Int.{bit_at}
+use Rattle.shape_graphs.specs.declared.graph.Arc.{Arc}
+use Rattle.shape_graphs.specs.Paths.{HasPath}
+
+-- bit c of row a
+abbrev pub bit_in : ℕ → List ℕ → ℕ → ℕ → ℕ
+bit_in words bits a c = bit_at (slice_index bits (a * words + c / 64)) (c % 64)
+
+-- bit c of row a is set
+abbrev pub IsSet : ℕ → List ℕ → ℕ → ℕ → Type 0
+IsSet words bits a c = bit_in words bits a c ≡ 1
+
+-- one row takes all bits of another, and the bit of the other's number; all other rows stay
+pub record IsTaken (words into from : ℕ) (old new : List ℕ) : Type 0 where
+  pub stay : (a c : ℕ) → (a ≡ into → ⊥) → c < 64 * words →
+      bit_in words new a c ≡ bit_in words old a c
+  pub take : (c : ℕ) → c < 64 * words →
+      IsSet words new into c ↔ (IsSet words old into c ⊎ (IsSet words old from c ⊎ (c ≡ from)))
+
+-- Bit c of row x is set, after an arc from a to b was added, exactly where it was before, or x is
+-- a or reaches it, and c is b or is reached from it.
+abbrev pub IsAdded : ℕ → List ℕ → ℕ → ℕ → ℕ → ℕ → Type 0 → Type 0
+IsAdded words old a b x c now =
+    now ↔ (IsSet words old x c
+    ⊎ (((x ≡ a) ⊎ IsSet words old x a) × ((c ≡ b) ⊎ IsSet words old b c)))
+
+-- the rows of so many nodes are those of the arcs: a bit is set exactly where a path leads from
+-- the node of the row to that of the bit
+abbrev pub AreBitsOf : ℕ → List ℕ → ℕ → List Arc → Type 0
+AreBitsOf words bits nodes arcs =
+    (a b : ℕ) → a < nodes → b < nodes → IsSet words bits a b ↔ HasPath arcs a b
