@@ -1,0 +1,93 @@
+-- What a sort of the extents leaves, and what the walk over all of them finds.
+use Rattle.std.proofs.Common.{◌≡◌, ℕ, ◌<◌, Option, Some, None, List, length, ◌⊎◌, inl, inr, subst, sym, ap, refl, ◌∙◌, arith}
+use Rattle.std.specs.List.{Contains}
+use Rattle.std.proofs.lemmas.List.{get_or_default}
+use Rattle.std.specs.List.Sorted.{IsPermutation}
+use Rattle.std.proofs.lemmas.Bool.{cases_order}
+use Rattle.std.proofs.lemmas.List.Elements.{Contains-get_or, All-from_get_or, All-get_or}
+use Rattle.std.proofs.lemmas.List.Sorted.{All-permutation, Contains-permutation}
+use Rattle.compact_types.specs.declared.places.Places.{Places}
+use Rattle.compact_types.specs.declared.plan.Shape.{Shape}
+use Rattle.compact_types.specs.declared.search.Choice.{Choice}
+use Rattle.compact_types.specs.Drawings.{IsDrawing}
+use Rattle.bars.specs.Segments.{segment_count, IsPair}
+use Rattle.bars.specs.Solutions.{HasDrawing, Solves}
+use Rattle.separation.specs.declared.candidates.Candidate.{Candidate}
+use Rattle.separation.specs.declared.extents.Extent.{Extent}
+use Rattle.separation.specs.Branching.{IsBranchPair, IsNotAfter}
+use Rattle.separation.specs.inner.Extents.{nowhere, extent_at, IsExtent, AreExtents, AreInShape}
+use Rattle.separation.specs.inner.Candidates.{IsCandidate, Progress, IsSeenBefore}
+use Rattle.separation.proofs.Centre.{drawn_from_apart, first_there}
+use Rattle.separation.proofs.CandidateLemmas.{one_count}
+
+-- what holds of each extent holds of each once they are sorted
+sorted_keeps : (P : Extent → Type 0) (before after : List Extent) → IsPermutation before after →
+    ((k : ℕ) → k < length before → P (extent_at before k)) → (k : ℕ) → k < length after → P (extent_at after k)
+sorted_keeps P before after moved each k within =
+    All-get_or P after k nowhere within (All-permutation P before after moved (All-from_get_or P before nowhere each))
+
+pub sorted_in_shape : (shape : Shape) (before after : List Extent) → IsPermutation before after → length before ≡ segment_count shape →
+    ((s : ℕ) → s < segment_count shape → (extent_at before s).segment ≡ s) → AreInShape shape after
+sorted_in_shape shape before after moved fits own =
+    sorted_keeps (λ extent. extent.segment < segment_count shape) before after moved
+    (λ k within. (let below : k < segment_count shape = omega (arith, within, fits) in let is = own k below in omega (arith, is, below)))
+
+pub sorted_extents : (shape : Shape) (places : Places) (before after : List Extent) → IsPermutation before after → AreExtents shape places before → AreExtents shape places after
+sorted_extents shape places before after moved are = sorted_keeps (λ extent. IsExtent shape places extent) before after moved are
+
+module _ (shape : Shape) (before after : List Extent) (moved : IsPermutation before after) (fits : length before ≡ segment_count shape)
+    (own : (s : ℕ) → s < segment_count shape → (extent_at before s).segment ≡ s) where
+  -- each segment has its place
+  position : (s : ℕ) → s < segment_count shape → (k : ℕ) × (k < length after) × ((extent_at after k).segment ≡ s)
+  position s within =
+      let inside : s < length before = omega (arith, within, fits) in
+      let stands = Contains-permutation before after (extent_at before s) moved (Contains-get_or before s nowhere inside) in
+      found stands
+    where
+      found : Contains after (extent_at before s) → (k : ℕ) × (k < length after) × ((extent_at after k).segment ≡ s)
+      found stands = (
+        stands.0,
+        stands.1,
+        ap (λ (extent : Extent). extent.segment) (get_or_default after stands.0 nowhere (extent_at before s) stands.1 ∙ stands.2) ∙ own s within,
+      )
+
+  -- so the walk sees each pair
+  pub each_seen : (s t : ℕ) → IsPair shape s t → IsSeenBefore after (length after) s t
+  each_seen s t pair = by_order (cases_order (position s (first_there shape s t pair)).0 (position t pair.in_shape).0)
+    where
+      first : (k : ℕ) × (k < length after) × ((extent_at after k).segment ≡ s)
+      first = position s (first_there shape s t pair)
+
+      second : (k : ℕ) × (k < length after) × ((extent_at after k).segment ≡ t)
+      second = position t pair.in_shape
+
+      by_order : (first.0 ≡ second.0) ⊎ ((first.0 < second.0) ⊎ (second.0 < first.0)) → IsSeenBefore after (length after) s t
+      by_order (inl same) =
+          let segments : (extent_at after first.0).segment ≡ (extent_at after second.0).segment = ap (λ (k : ℕ). (extent_at after k).segment) same in
+          let less = pair.in_order in
+          let is_s = first.2 in
+          let is_t = second.2 in
+          absurd (omega (arith, segments, less, is_s, is_t))
+      by_order (inr (inl before)) = (first.0, first.1, (second.0, before, second.1, inl (sym first.2, sym second.2)))
+      by_order (inr (inr behind)) = (second.0, second.1, (first.0, behind, first.1, inr (sym first.2, sym second.2)))
+
+module _ (shape : Shape) (choices : List Choice) (places : Places) (extents : List Extent)
+    (seen : (s t : ℕ) → IsPair shape s t → IsSeenBefore extents (length extents) s t) where
+  -- where nothing is found the places are a drawing
+  pub drawing_from_none : HasDrawing shape → Solves shape choices places →
+      Progress shape choices places None None (IsSeenBefore extents (length extents)) → IsDrawing shape places
+  drawing_from_none drawing solves step =
+      drawn_from_apart shape drawing places solves.ways solves.places_fit (λ s t pair share. step.covered s t (seen s t pair) pair share)
+
+  -- what is found is the pair of the branch
+  pub pair_from_some : (c : Candidate) → Progress shape choices places None (Some c) (IsSeenBefore extents (length extents)) → IsBranchPair shape choices places c.s c.t
+  pair_from_some c step = record {
+    pair = candidate.pair;
+    share = candidate.share;
+    fewest = λ u v m n pair share has_m has_n. (
+        let covers = step.covered u v (seen u v pair) pair share in
+        subst (λ (x : ℕ). IsNotAfter x c.s c.t n u v) (one_count shape choices c.s c.t _ m candidate.open_sides has_m) (covers n has_n));
+  }
+    where
+      candidate : IsCandidate shape choices places c
+      candidate = step.found (λ d none. absurd (let e : ◌≡◌ {A = Option Candidate} None (Some d) = none in cc)) c refl

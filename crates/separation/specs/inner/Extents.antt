@@ -1,0 +1,66 @@
+-- How far segments reach in given places.
+use Rattle.std.specs.Prelude.{◌≡◌, ℕ, ◌<◌, pos, ℤ, ◌≤ℤ◌, Bool, ◌&&◌, int_le, List, length, slice_index_or}
+use Rattle.compact_types.specs.declared.places.Axis.{Axis}
+use Rattle.compact_types.specs.declared.places.Axis.TheVariants.{X, Y}
+use Rattle.compact_types.specs.declared.places.Places.{Places}
+use Rattle.compact_types.specs.declared.plan.Shape.{Shape}
+use Rattle.compact_types.specs.Drawings.{HasWays}
+use Rattle.compact_types.specs.Lookups.{along, place}
+use Rattle.bars.specs.Segments.{segment_count, node_of, low_node, high_node}
+use Rattle.separation.specs.declared.extents.Extent.{Extent}
+
+-- the extent that stands for one that is not there
+abbrev pub nowhere : Extent
+nowhere = record { segment = 0; left = pos 0; right = pos 0; low = pos 0; high = pos 0 }
+
+abbrev pub extent_at : List Extent → ℕ → Extent
+extent_at extents k = slice_index_or extents k nowhere
+
+-- the coordinate of a node
+abbrev pub number_at : List ℤ → ℕ → ℤ
+number_at numbers node = slice_index_or numbers node (pos 0)
+
+-- the number is the coordinate of the vertices of the node
+abbrev pub IsAtNode : Axis → Shape → Places → ℕ → ℤ → Type 0
+IsAtNode axis shape places node z =
+    (v : ℕ) → v < shape.plan.vertices → node_of axis shape v ≡ node → along axis (place places.xy v) ≡ z
+
+-- the numbers are the coordinates of the nodes of the axis, as far as the first n vertices say
+abbrev pub AreAtNodes : Axis → Shape → Places → ℕ → List ℤ → Type 0
+AreAtNodes axis shape places n numbers =
+    (v : ℕ) → v < n → along axis (place places.xy v) ≡ number_at numbers (node_of axis shape v)
+
+-- the extent is that of its segment
+pub record IsExtent (shape : Shape) (places : Places) (extent : Extent) : Type 0 where
+  pub within : extent.segment < segment_count shape
+  pub left : IsAtNode X shape places (low_node X shape extent.segment) extent.left
+  pub right : IsAtNode X shape places (high_node X shape extent.segment) extent.right
+  pub low : IsAtNode Y shape places (low_node Y shape extent.segment) extent.low
+  pub high : IsAtNode Y shape places (high_node Y shape extent.segment) extent.high
+
+abbrev pub AreExtents : Shape → Places → List Extent → Type 0
+AreExtents shape places extents = (k : ℕ) → k < length extents → IsExtent shape places (extent_at extents k)
+
+-- the segments of the extents are there
+abbrev pub AreInShape : Shape → List Extent → Type 0
+AreInShape shape extents = (k : ℕ) → k < length extents → (extent_at extents k).segment < segment_count shape
+
+-- the extents begin one after the other
+abbrev pub BeginInOrder : List Extent → Type 0
+BeginInOrder extents =
+    (a b : ℕ) → a < b → b < length extents → (extent_at extents a).left ≤ℤ (extent_at extents b).left
+
+-- whether neither extent ends before the other begins, along x and along y
+abbrev pub meet_in_x : Extent → Extent → Bool
+meet_in_x a b = int_le b.left a.right && int_le a.left b.right
+
+abbrev pub meet_in_y : Extent → Extent → Bool
+meet_in_y a b = int_le b.low a.high && int_le a.low b.high
+
+abbrev pub overlap : Extent → Extent → Bool
+overlap a b = meet_in_x a b && meet_in_y a b
+
+-- the extents before place n are those of the segments of these numbers
+pub record ArePut (shape : Shape) (places : Places) (n : ℕ) (extents : List Extent) : Type 0 where
+  pub segment : (k : ℕ) → k < n → (extent_at extents k).segment ≡ k
+  pub extent : HasWays shape places → (k : ℕ) → k < n → IsExtent shape places (extent_at extents k)

@@ -1,0 +1,157 @@
+//! How far segments reach in given places.
+
+ghost use Rattle.std.specs.Prelude.{◌≡◌, ℕ, ◌<◌, ◌≤◌, int_lt, length};
+ghost use Rattle.std.specs.List.Sorted.{IsPermutation};
+ghost use Rattle.compact_types.specs.declared.places.Axis.TheVariants as axes;
+ghost use Rattle.compact_types.specs.declared.places.Places.{Places};
+ghost use Rattle.compact_types.specs.Drawings.{HasWays};
+ghost use Rattle.compact_types.specs.Lookups.{along, place};
+ghost use Rattle.bars.specs.Segments.{segment_count, node_of, node_count};
+ghost use Rattle.separation.specs.inner.Extents.{extent_at, AreAtNodes, IsExtent, AreExtents};
+ghost use Rattle.separation.specs.inner.Extents.{BeginInOrder, meet_in_x, meet_in_y, overlap};
+
+use bars::Bars;
+use compact_types::{Axis, MOST_VERTICES, Places};
+
+/// Room for all nodes of a graph, and for all segments.
+pub(crate) const ROOM: usize = MOST_VERTICES as usize;
+
+/// A segment, and how far it reaches.
+#[derive(Clone, Copy, Debug)]
+pub(crate) struct Extent {
+    pub(crate) segment: u32,
+    pub(crate) left: i64,
+    pub(crate) right: i64,
+    pub(crate) low: i64,
+    pub(crate) high: i64,
+}
+
+/// The extent of no segment.
+pub(crate) const NOWHERE: Extent = Extent {
+    segment: 0,
+    left: 0,
+    right: 0,
+    low: 0,
+    high: 0,
+};
+
+/// Puts at each place the extent of the segment of that number.
+#[tactic(auto, using(crate::proofs::EndLemmas::few_nodes))]
+pub(crate) fn put_extents(extents: &mut [Extent], bars: &Bars, places: &Places)
+    requires one_for_each { length extents.old ≡ segment_count bars.now }
+    requires places_fit { length places.now.xy ≡ bars.now.plan.vertices }
+    requires few { bars.now.plan.vertices ≤ ROOM }
+    ensures len { length extents.new ≡ length extents.old }
+    ensures segment { (s : ℕ) → s < length extents.old → (extent_at extents.new s).segment ≡ s }
+    ensures extents { HasWays bars.now places.now → AreExtents bars.now places.now extents.new }
+{
+    let mut xs = [0; ROOM];
+    put_coordinates(&mut xs, bars, places, Axis::X);
+    let mut ys = [0; ROOM];
+    put_coordinates(&mut ys, bars, places, Axis::Y);
+    for s in 0..bars.bars() {
+        extents[s as usize] = extent_of(bars, &xs, &ys, s);
+    }
+}
+
+/// Orders the extents from west to east by where they begin.
+pub(crate) fn order_by_left(extents: &mut [Extent])
+    ensures permutation { IsPermutation extents.old extents.new }
+    ensures len { length extents.new ≡ length extents.old }
+    ensures in_order { BeginInOrder extents.new }
+{
+    extents.sort_unstable_by_key(|extent| extent.left);
+}
+
+/// Whether neither ends before the other begins, along both axes.
+pub(crate) fn overlap(a: &Extent, b: &Extent) -> bool
+    ensures { result ≡ overlap a.now b.now }
+{
+    meet_in_x(a, b) && meet_in_y(a, b)
+}
+
+/// Whether the first ends west of where the second begins.
+pub(crate) fn ends_west(a: &Extent, b: &Extent) -> bool
+    ensures { result ≡ int_lt a.now.right b.now.left }
+{
+    a.right < b.left
+}
+
+/// Whether the first ends below where the second begins.
+pub(crate) fn ends_below(a: &Extent, b: &Extent) -> bool
+    ensures { result ≡ int_lt a.now.high b.now.low }
+{
+    a.high < b.low
+}
+
+/// Whether neither ends west of the other's beginning.
+fn meet_in_x(a: &Extent, b: &Extent) -> bool
+    ensures { result ≡ meet_in_x a.now b.now }
+{
+    b.left <= a.right && a.left <= b.right
+}
+
+/// Whether neither ends below the other's beginning.
+fn meet_in_y(a: &Extent, b: &Extent) -> bool
+    ensures { result ≡ meet_in_y a.now b.now }
+{
+    b.low <= a.high && a.low <= b.high
+}
+
+/// The extent of the segment `s`, by the coordinates of the nodes.
+#[tactic(auto, using(crate::proofs::EndLemmas::low_inside, crate::proofs::EndLemmas::high_inside))]
+fn extent_of(bars: &Bars, xs: &[i64], ys: &[i64], s: u32) -> Extent
+    requires segment { s < segment_count bars.now }
+    requires xs { node_count axes.X bars.now ≤ length xs.now }
+    requires ys { node_count axes.Y bars.now ≤ length ys.now }
+    ensures segment { result.segment ≡ s }
+    ensures extent { (places : Places) →
+        AreAtNodes axes.X bars.now places bars.now.plan.vertices xs.now →
+        AreAtNodes axes.Y bars.now places bars.now.plan.vertices ys.now →
+        IsExtent bars.now places result }
+{
+    Extent {
+        segment: s,
+        left: xs[bars.left(s) as usize],
+        right: xs[bars.right(s) as usize],
+        low: ys[bars.low(s) as usize],
+        high: ys[bars.high(s) as usize],
+    }
+}
+
+/// Puts the coordinate of each node of the axis, which all its vertices have.
+#[tactic(auto, using(crate::proofs::EndLemmas::node_inside))]
+fn put_coordinates(numbers: &mut [i64], bars: &Bars, places: &Places, axis: Axis)
+    requires room { node_count axis bars.now ≤ length numbers.old }
+    requires places_fit { length places.now.xy ≡ bars.now.plan.vertices }
+    ensures len { length numbers.new ≡ length numbers.old }
+    ensures coordinates { HasWays bars.now places.now →
+        AreAtNodes axis bars.now places.now bars.now.plan.vertices numbers.new }
+{
+    for v in 0..bars.shape().plan.vertices {
+        numbers[node_of(bars, axis, v) as usize] = coordinate(places, axis, v);
+    }
+}
+
+/// The node of the vertex in the graph of the axis.
+fn node_of(bars: &Bars, axis: Axis, v: u32) -> u32
+    requires { v < bars.now.plan.vertices }
+    ensures { result ≡ node_of axis bars.now v }
+{
+    match axis {
+        Axis::X => bars.column_of(v),
+        Axis::Y => bars.row_of(v),
+    }
+}
+
+/// The coordinate of the vertex along the axis.
+fn coordinate(places: &Places, axis: Axis, v: u32) -> i64
+    requires { v < length places.now.xy }
+    ensures { result ≡ along axis (place places.now.xy v) }
+{
+    let point = places.xy.as_slice()[v as usize];
+    match axis {
+        Axis::X => point.x,
+        Axis::Y => point.y,
+    }
+}
