@@ -1,0 +1,280 @@
+-- Numbers that are raised step by step.
+use Rattle.std.proofs.Common.{◌≡◌, ℕ, suc, ◌+◌, ◌-◌, ◌*◌, ◌<◌, ◌≤◌, inl, inr, List, [], ◌∷◌, ◌++◌, length, get_or, set, drop, replicate, refl, sym, ap, subst, ◌∙◌, arith, sum}
+use Rattle.std.proofs.lemmas.Bool.{cases_eq, cases_lt}
+use Rattle.std.proofs.lemmas.List.{length-set, get_or-replicate, length-replicate, length-drop, get_or-drop, length_push}
+use Rattle.std.proofs.lemmas.List.Sums.{sum_by-set}
+use Rattle.diff_flow.specs.declared.steps.Step.{Step}
+use Rattle.diff_flow.specs.inner.Steps.{step_at, AreStepsWithin, AreRows, IsOpen, Meets, AreMet}
+use Rattle.diff_flow.specs.inner.Numbers.{height, IsIn, AreLow, NoneMeet, IsLift, AreListed, Waits, Rises, AreLate, NoneLate, AreLeastMet}
+use Rattle.diff_flow.proofs.Gaps.{closed, closed_most, closed_keeps}
+use Rattle.diff_flow.proofs.SetLemmas.{by_write, by_push, in_rest, in_last, in_pushed}
+
+-- numbers that meet the steps, without gaps
+pub without_gaps : (nodes arcs reach : ℕ) (steps : List Step) (amounts : List ℕ) (h : ℕ → ℕ) →
+    AreStepsWithin nodes arcs reach steps → AreMet steps amounts h → AreMet steps amounts (λ v. closed reach h nodes (h v))
+without_gaps nodes arcs reach steps amounts h all met k inside opens =
+    let is = all k inside in
+    closed_keeps reach h nodes (step_at steps k).from (step_at steps k).to (step_at steps k).up (step_at steps k).down
+    is.from is.to is.up is.down (met k inside opens)
+
+pub zeros_low : (nodes limit : ℕ) (steps : List Step) (amounts : List ℕ) → AreLow nodes steps amounts limit (replicate {A = ℕ} nodes 0)
+zeros_low nodes limit steps amounts = record {
+  one_for_each = length-replicate {A = ℕ} nodes 0;
+  inside = λ v inside. omega (arith, zero_at v inside);
+  below = λ others met v inside. omega (arith, zero_at v inside);
+}
+  where
+    zero_at : (v : ℕ) → v < nodes → get_or (replicate {A = ℕ} nodes 0) v 0 ≡ 0
+    zero_at v inside = get_or-replicate {A = ℕ} nodes v 0 0 inside
+
+module _ (nodes arcs reach : ℕ) (steps : List Step) (amounts : List ℕ) (limit : ℕ) (old : List ℕ)
+    (all : AreStepsWithin nodes arcs reach steps) (low : AreLow nodes steps amounts limit old) where
+  -- a number above the limit
+  pub too_high : (k : ℕ) → k < length steps → limit ≡ (nodes - 1) * reach → IsOpen amounts (step_at steps k) →
+      limit + (step_at steps k).down < height old (step_at steps k).from + (step_at steps k).up → NoneMeet steps amounts
+  too_high k inside is opens high others met =
+      let fits = all k inside in
+      let less = without_gaps nodes arcs reach steps amounts others all met in
+      let at_from = low.below (λ v. closed reach others nodes (others v)) less (step_at steps k).from fits.from in
+      let at_to = closed_most reach others nodes (step_at steps k).to fits.to in
+      let kept = less k inside opens in
+      omega (arith, at_from, at_to, kept, high, is)
+
+  pub too_high_at : (k : ℕ) (step : Step) → k < length steps → limit ≡ (nodes - 1) * reach → step ≡ step_at steps k → IsOpen amounts step →
+      limit + step.down < height old step.from + step.up → NoneMeet steps amounts
+  too_high_at k step inside limited is opens high =
+      too_high k inside limited (subst (IsOpen amounts) is opens) (subst (λ s. limit + s.down < height old s.from + s.up) is high)
+
+  -- a raised number is low
+  pub raised_low : (k : ℕ) → k < length steps → IsOpen amounts (step_at steps k) → (new : List ℕ) (up : ℕ) →
+      IsLift (step_at steps k) old new up → up ≤ limit → AreLow nodes steps amounts limit new
+  raised_low k inside opens new up lifted within =
+      let fits = all k inside in
+      let to_in : (step_at steps k).to < length old = omega (arith, fits.to, low.one_for_each) in
+      subst (AreLow nodes steps amounts limit) (sym lifted.written)
+      (record {
+        one_for_each = length-set old (step_at steps k).to up ∙ low.one_for_each;
+        inside = λ v v_in. by_write (λ x. x ≤ limit) old (step_at steps k).to v up to_in (λ _. within) (λ _. low.inside v v_in);
+        below = λ others met v v_in. by_write (λ x. x ≤ others v) old (step_at steps k).to v up to_in
+            (λ here. let kept = met k inside opens in
+            let start = low.below others met (step_at steps k).from fits.from in
+            let end : up ≤ others (step_at steps k).to = omega (arith, kept, start, lifted.just) in
+            subst (λ w. up ≤ others w) (sym here) end)
+            (λ _. low.below others met v v_in);
+      })
+
+  pub raised_low_at : (k : ℕ) (step : Step) → k < length steps → step ≡ step_at steps k → IsOpen amounts step → (new : List ℕ) (up : ℕ) →
+      IsLift step old new up → up ≤ limit → AreLow nodes steps amounts limit new
+  raised_low_at k step inside is opens new up lifted within =
+      raised_low k inside (subst (IsOpen amounts) is opens) new up (subst (λ s. IsLift s old new up) is lifted) within
+
+sum_raised : (old : List ℕ) (i up : ℕ) → i < length old → get_or old i 0 < up → suc (sum old) ≤ sum (set old i up)
+sum_raised old i up inside higher = omega (arith, sum_by-set (λ x. x) old i up 0 inside)
+
+-- a raise shortens what is left by as much as the queue grows
+pub raise_shortens : (step : Step) (old new queue queue' : List ℕ) (up : ℕ) → step.to < length old → IsLift step old new up →
+    length queue' ≤ length queue + 1 → length queue' + sum old ≤ length queue + sum new
+raise_shortens step old new queue queue' up inside lifted more =
+    let grown : suc (sum old) ≤ sum new = rw lifted.written (sum_raised old step.to up inside lifted.higher) in
+    omega (arith, grown, more)
+
+-- numbers, flags and queue at one step
+module _ (nodes arcs reach : ℕ) (steps : List Step) (amounts : List ℕ) (limit : ℕ) (numbers waits queue : List ℕ)
+    (all : AreStepsWithin nodes arcs reach steps) (k : ℕ) (inside : k < length steps)
+    (rises : Rises nodes steps amounts limit numbers waits queue (AreLate steps (step_at steps k).from (k + 1))) where
+  -- the step is met already, or closed
+  pub rises_kept : (new : List ℕ) → new ≡ numbers → (IsOpen amounts (step_at steps k) → Meets (height numbers) (step_at steps k)) →
+      Rises nodes steps amounts limit new waits queue (AreLate steps (step_at steps k).from k)
+  rises_kept new same kept =
+      subst (λ xs. Rises nodes steps amounts limit xs waits queue (AreLate steps (step_at steps k).from k)) (sym same)
+      (record {
+        low = rises.low;
+        lists = rises.lists;
+        met = λ j j_in opens. elim (rises.met j j_in opens) [
+          | inl waits_now ↦ inl waits_now
+          | inr (inl meets) ↦ inr (inl meets)
+          | inr (inr late) ↦ elim (cases_lt j k) [
+            | inl before ↦ inr (inr (late.0, before))
+            | inr behind ↦ let here : j ≡ k = omega (arith, late.1) in
+                inr (inl (subst (λ i. IsOpen amounts (step_at steps i) → Meets (height numbers) (step_at steps i)) (sym here) kept opens))
+          ]
+        ];
+      })
+
+  -- the number at its end is raised, and its node waits
+  pub rises_raised : (new waits' queue' : List ℕ) (up : ℕ) → IsOpen amounts (step_at steps k) → IsLift (step_at steps k) numbers new up → up ≤ limit →
+      Waits nodes (step_at steps k).to waits queue waits' queue' →
+      Rises nodes steps amounts limit new waits' queue' (AreLate steps (step_at steps k).from k)
+  rises_raised new waits' queue' up opens lifted within more =
+      let fits = all k inside in
+      let to_in : (step_at steps k).to < length numbers = omega (arith, fits.to, rises.low.one_for_each) in
+      record {
+        low = raised_low nodes arcs reach steps amounts limit numbers all rises.low k inside opens new up lifted within;
+        lists = more.lists;
+        met = λ j j_in opens'. elim (cases_eq (step_at steps j).from (step_at steps k).to) [
+          | inl same ↦ inl (subst (λ v. 0 < get_or waits' v 0) (sym same) more.here)
+          | inr apart ↦
+              let from_is : height new (step_at steps j).from ≡ height numbers (step_at steps j).from = kept_at (step_at steps j).from apart to_in in
+              let to_up : height numbers (step_at steps j).to ≤ height new (step_at steps j).to = risen_at (step_at steps j).to to_in in
+              elim (rises.met j j_in opens') [
+                | inl waits_now ↦ inl (more.still _ waits_now)
+                | inr (inl meets) ↦ inr (inl (omega (arith, from_is, to_up, meets)))
+                | inr (inr late) ↦ elim (cases_lt j k) [
+                  | inl before ↦ inr (inr (late.0, before))
+                  | inr behind ↦
+                      let here : k ≡ j = omega (arith, late.1) in
+                      inr (inl (subst (λ i. height new (step_at steps i).from ≡ height numbers (step_at steps i).from → Meets (height new) (step_at steps i))
+                      here just from_is))
+                ]
+              ]
+        ];
+      }
+    where
+      kept_at : (v : ℕ) → (v ≡ (step_at steps k).to → ⊥) → (step_at steps k).to < length numbers → height new v ≡ height numbers v
+      kept_at v apart to_in = rw lifted.written (by_write (λ x. x ≡ height numbers v) numbers (step_at steps k).to v up to_in (λ same. absurd (apart same)) (λ _. refl))
+
+      risen_at : (v : ℕ) → (step_at steps k).to < length numbers → height numbers v ≤ height new v
+      risen_at v to_in = rw lifted.written (by_write (λ x. height numbers v ≤ x) numbers (step_at steps k).to v up to_in
+          (λ same. subst (λ w. height numbers w ≤ up) (sym same) (omega (arith, lifted.higher))) (λ _. omega arith))
+
+      end_is : (step_at steps k).to < length numbers → height new (step_at steps k).to ≡ up
+      end_is to_in = rw lifted.written (by_write (λ x. x ≡ up) numbers (step_at steps k).to (step_at steps k).to up to_in (λ _. refl) (λ apart. absurd (apart refl)))
+
+      just : height new (step_at steps k).from ≡ height numbers (step_at steps k).from → Meets (height new) (step_at steps k)
+      just from_is = omega (arith, from_is, end_is (omega (arith, (all k inside).to, rises.low.one_for_each)), lifted.just)
+
+  pub rises_raised_at : (step : Step) (new waits' queue' : List ℕ) (up : ℕ) → step ≡ step_at steps k → IsOpen amounts step → IsLift step numbers new up →
+      up ≤ limit → Waits nodes step.to waits queue waits' queue' → Rises nodes steps amounts limit new waits' queue' (AreLate steps (step_at steps k).from k)
+  rises_raised_at step new waits' queue' up is opens lifted within more =
+      rises_raised new waits' queue' up (subst (IsOpen amounts) is opens) (subst (λ s. IsLift s numbers new up) is lifted) within
+      (subst (λ s. Waits nodes s.to waits queue waits' queue') is more)
+
+-- the next step of the node
+pub rises_next : (nodes : ℕ) (steps : List Step) (amounts : List ℕ) (limit : ℕ) (numbers waits queue last before : List ℕ) (node k : ℕ) →
+    AreRows nodes (length steps) steps last before → k < length steps → (step_at steps k).from ≡ node →
+    Rises nodes steps amounts limit numbers waits queue (AreLate steps (step_at steps k).from k) →
+    Rises nodes steps amounts limit numbers waits queue (AreLate steps node (get_or before k 0))
+rises_next nodes steps amounts limit numbers waits queue last before node k rows inside from rises = record {
+  low = rises.low;
+  lists = rises.lists;
+  met = λ j j_in opens. elim (rises.met j j_in opens) [
+    | inl waits_now ↦ inl waits_now
+    | inr (inl meets) ↦ inr (inl meets)
+    | inr (inr late) ↦ inr (inr (late.0 ∙ from, rows.before_all j k late.1 inside late.0))
+  ];
+}
+
+-- the last step of the node
+pub rises_last : (nodes : ℕ) (steps : List Step) (amounts : List ℕ) (limit : ℕ) (numbers waits queue last before : List ℕ) (node : ℕ) →
+    AreRows nodes (length steps) steps last before →
+    Rises nodes steps amounts limit numbers waits queue (AreLate steps node (length steps)) →
+    Rises nodes steps amounts limit numbers waits queue (AreLate steps node (get_or last node 0))
+rises_last nodes steps amounts limit numbers waits queue last before node rows rises = record {
+  low = rises.low;
+  lists = rises.lists;
+  met = λ j j_in opens. elim (rises.met j j_in opens) [
+    | inl waits_now ↦ inl waits_now
+    | inr (inl meets) ↦ inr (inl meets)
+    | inr (inr late) ↦ inr (inr (late.0, subst (λ v. j < get_or last v 0) late.0 (rows.last_all j j_in)))
+  ];
+}
+
+-- no step is left
+pub rises_all : (nodes : ℕ) (steps : List Step) (amounts : List ℕ) (limit : ℕ) (numbers waits queue : List ℕ) (node entry : ℕ) → entry ≡ 0 →
+    Rises nodes steps amounts limit numbers waits queue (AreLate steps node entry) →
+    Rises nodes steps amounts limit numbers waits queue NoneLate
+rises_all nodes steps amounts limit numbers waits queue node entry none rises = record {
+  low = rises.low;
+  lists = rises.lists;
+  met = λ j j_in opens. elim (rises.met j j_in opens) [
+    | inl waits_now ↦ inl waits_now
+    | inr (inl meets) ↦ inr (inl meets)
+    | inr (inr late) ↦ absurd (omega (arith, late.1, none))
+  ];
+}
+
+-- the first of the queue is taken, and its steps are late
+pub rises_popped : (nodes : ℕ) (steps : List Step) (amounts : List ℕ) (limit : ℕ) (numbers waits queue queue' : List ℕ) (node : ℕ) →
+    node < nodes → node ≡ get_or queue 0 0 → queue' ≡ drop 1 queue → Rises nodes steps amounts limit numbers waits queue NoneLate →
+    Rises nodes steps amounts limit numbers (set waits node 0) queue' (AreLate steps node (length steps))
+rises_popped nodes steps amounts limit numbers waits queue queue' node node_in first rest rises = record {
+  low = rises.low;
+  lists = record {
+    flags = length-set waits node 0 ∙ rises.lists.flags;
+    listed = λ v v_in. by_write (λ x. 0 < x → IsIn queue' v) waits node v 0 flag_in (λ here some. absurd (omega arith))
+        (λ apart some. subst (λ xs. IsIn xs v) (sym rest) (in_rest queue v node first (rises.lists.listed v v_in some) apart));
+    nodes_only = λ k k_in.
+        let inside : k < length queue - 1 = omega (arith, k_in, ap length rest, length-drop 1 queue) in
+        let e : get_or queue' k 0 ≡ get_or queue (1 + k) 0 = ap (λ xs. get_or xs k 0) rest ∙ get_or-drop 1 queue k 0 in
+        let old = rises.lists.nodes_only (1 + k) (omega (arith, inside)) in
+        omega (arith, e, old);
+  };
+  met = λ j j_in opens. elim (rises.met j j_in opens) [
+    | inl waits_now ↦ elim (cases_eq (step_at steps j).from node) [
+      | inl here ↦ inr (inr (here, j_in))
+      | inr apart ↦ inl (by_write (λ x. 0 < x) waits node (step_at steps j).from 0 flag_in (λ here. absurd (apart here)) (λ _. waits_now))
+    ]
+    | inr (inl meets) ↦ inr (inl meets)
+    | inr (inr late) ↦ absurd late
+  ];
+}
+  where
+    flag_in : node < length waits
+    flag_in = omega (arith, node_in, rises.lists.flags)
+
+pub rises_taken : (nodes : ℕ) (steps : List Step) (amounts : List ℕ) (limit : ℕ) (numbers waits queue queue' : List ℕ) (node : ℕ) →
+    queue ≡ node ∷ queue' → Rises nodes steps amounts limit numbers waits queue NoneLate →
+    Rises nodes steps amounts limit numbers (set waits node 0) queue' (AreLate steps node (length steps))
+rises_taken nodes steps amounts limit numbers waits queue queue' node taken rises =
+    let first : node ≡ get_or queue 0 0 = sym (ap (λ xs. get_or xs 0 0) taken) in
+    let some : 0 < length queue = omega (arith, ap length taken) in
+    let inside = rises.lists.nodes_only 0 some in
+    rises_popped nodes steps amounts limit numbers waits queue queue' node (omega (arith, first, inside)) first (sym (ap (drop 1) taken)) rises
+
+-- no node waits
+pub rises_done : (nodes arcs reach : ℕ) (steps : List Step) (amounts : List ℕ) (limit : ℕ) (numbers waits queue : List ℕ) →
+    AreStepsWithin nodes arcs reach steps → length queue ≡ 0 → Rises nodes steps amounts limit numbers waits queue NoneLate →
+    AreLeastMet nodes steps amounts limit numbers
+rises_done nodes arcs reach steps amounts limit numbers waits queue all none rises = record {
+  low = rises.low;
+  met = λ j j_in opens. elim (rises.met j j_in opens) [
+    | inl waits_now ↦ absurd (let found = rises.lists.listed (step_at steps j).from (all j j_in).from waits_now in omega (arith, found.1, none))
+    | inr (inl meets) ↦ meets
+    | inr (inr late) ↦ absurd late
+  ];
+}
+
+-- at the beginning all nodes wait
+pub rises_first : (nodes arcs reach : ℕ) (steps : List Step) (amounts : List ℕ) (limit : ℕ) (numbers queue : List ℕ) →
+    AreStepsWithin nodes arcs reach steps → AreLow nodes steps amounts limit numbers →
+    length queue ≡ nodes → ((v : ℕ) → v < nodes → get_or queue v 0 ≡ v) →
+    Rises nodes steps amounts limit numbers (replicate {A = ℕ} nodes 1) queue NoneLate
+rises_first nodes arcs reach steps amounts limit numbers queue all low count each = record {
+  low = low;
+  lists = record {
+    flags = length-replicate {A = ℕ} nodes 1;
+    listed = λ v v_in some. (v, omega (arith, count), each v v_in);
+    nodes_only = λ k k_in. let is = each k (omega (arith, count)) in omega (arith, is, count);
+  };
+  met = λ j j_in opens. inl (one_at (step_at steps j).from (all j j_in).from);
+}
+  where
+    one_at : (v : ℕ) → v < nodes → 0 < get_or (replicate {A = ℕ} nodes 1) v 0
+    one_at v inside = let e = get_or-replicate {A = ℕ} nodes v 1 0 inside in omega (arith, e)
+
+-- a node more in the queue
+pub waits_pushed : (node : ℕ) (waits queue : List ℕ) → node < length waits → AreListed (length waits) waits queue →
+    Waits (length waits) node waits queue (set waits node 1) (queue ++ node ∷ [])
+waits_pushed node waits queue inside lists = record {
+  lists = record {
+    flags = length-set waits node 1;
+    listed = λ v v_in. by_write (λ x. 0 < x → IsIn (queue ++ node ∷ []) v) waits node v 1 inside
+        (λ here some. subst (IsIn (queue ++ node ∷ [])) (sym here) (in_last queue node))
+        (λ apart some. in_pushed queue node v (lists.listed v v_in some));
+    nodes_only = λ k k_in. by_push (λ x. x < length waits) queue k node (omega (arith, k_in, length_push queue node))
+        (λ here. inside) (λ front. lists.nodes_only k front);
+  };
+  here = by_write (λ x. 0 < x) waits node node 1 inside (λ same. omega arith) (λ apart. absurd (apart refl));
+  still = λ v some. by_write (λ x. 0 < x) waits node v 1 inside (λ same. omega arith) (λ apart. some);
+  one_more = omega (arith, length_push queue node);
+}

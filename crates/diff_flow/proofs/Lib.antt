@@ -1,0 +1,9 @@
+pub mod SignedLemmas
+pub mod Duality
+pub mod Meets
+pub mod Gaps
+pub mod FlowLemmas
+pub mod SetLemmas
+pub mod StepLemmas
+pub mod LabelLemmas
+pub mod TightLemmas

@@ -1,0 +1,4 @@
+pub mod Amounts
+pub mod Tight
+pub mod Shortest
+pub mod inner

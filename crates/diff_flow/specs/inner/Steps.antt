@@ -1,0 +1,74 @@
+-- Steps between nodes, forwards over each arc and backwards over each.
+use Rattle.std.specs.Prelude.{◌≡◌, ℕ, ◌+◌, ◌-◌, ◌<◌, ◌≤◌, pos, List, length, slice_index, slice_index_or}
+use Rattle.shape_graphs.specs.declared.graph.Arc.{Arc}
+use Rattle.shape_graphs.specs.Arcs.{arc_at}
+use Rattle.shape_graphs.specs.Flows.{amount_at}
+use Rattle.diff_flow.specs.declared.steps.Step.{Step}
+
+-- the step that stands for one that is not there
+abbrev pub no_step : Step
+no_step = record { from = 0; to = 0; arc = 0; up = 0; down = 0 }
+
+-- the step of a number
+abbrev pub step_at : List Step → ℕ → Step
+step_at steps k = slice_index_or steps k no_step
+
+-- the ends of every step are nodes, it belongs to an arc, and it goes up or down by at most the reach
+pub record IsStepWithin (nodes arcs reach : ℕ) (step : Step) : Type 0 where
+  pub from : step.from < nodes
+  pub to : step.to < nodes
+  pub arc : step.arc < arcs
+  pub up : step.up ≤ reach
+  pub down : step.down ≤ reach
+
+abbrev pub AreStepsWithin : ℕ → ℕ → ℕ → List Step → Type 0
+AreStepsWithin nodes arcs reach steps = (k : ℕ) → k < length steps → IsStepWithin nodes arcs reach (step_at steps k)
+
+-- The first so many steps by the node that they begin at: the last of each node, and before each the
+-- next; an entry is the number of a step and one more, 0 where there is none.
+pub record AreRows (nodes count : ℕ) (steps : List Step) (last before : List ℕ) : Type 0 where
+  pub last_for_each : length last ≡ nodes
+  pub before_for_each : length before ≡ count
+  pub last_most : (v : ℕ) → v < nodes → slice_index last v ≤ count
+  pub last_from : (v : ℕ) → v < nodes → 0 < slice_index last v → (step_at steps (slice_index last v - 1)).from ≡ v
+  pub last_all : (k : ℕ) → k < count → k < slice_index last (step_at steps k).from
+  pub before_most : (k : ℕ) → k < count → slice_index before k ≤ k
+  pub before_from : (k : ℕ) → k < count → 0 < slice_index before k →
+      (step_at steps (slice_index before k - 1)).from ≡ (step_at steps k).from
+  pub before_all : (j k : ℕ) → j < k → k < count → (step_at steps j).from ≡ (step_at steps k).from →
+      j < slice_index before k
+
+-- the step goes along the arc of this number
+pub record IsAlong (arc : Arc) (i : ℕ) (step : Step) : Type 0 where
+  pub from : step.from ≡ arc.from
+  pub to : step.to ≡ arc.to
+  pub number : step.arc ≡ i
+  pub up : pos step.up ≡ arc.least
+  pub down : step.down ≡ 0
+
+-- the step goes against the arc of this number
+pub record IsAgainst (arc : Arc) (i : ℕ) (step : Step) : Type 0 where
+  pub from : step.from ≡ arc.to
+  pub to : step.to ≡ arc.from
+  pub number : step.arc ≡ i
+  pub up : step.up ≡ 0
+  pub down : pos step.down ≡ arc.least
+
+-- the steps along all arcs, and then those against all
+pub record AreStepsOf (arcs : List Arc) (steps : List Step) : Type 0 where
+  pub two_for_each : length steps ≡ length arcs + length arcs
+  pub along : (i : ℕ) → i < length arcs → IsAlong (arc_at arcs i) i (step_at steps i)
+  pub against : (i : ℕ) → i < length arcs → IsAgainst (arc_at arcs i) i (step_at steps (length arcs + i))
+
+-- the step is open for the amounts: it goes along its arc, or the arc's amount is positive
+abbrev pub IsOpen : List ℕ → Step → Type 0
+IsOpen amounts step = 0 < step.up + amount_at amounts step.arc
+
+-- the numbers meet the step
+abbrev pub Meets : (ℕ → ℕ) → Step → Type 0
+Meets numbers step = numbers step.from + step.up ≤ numbers step.to + step.down
+
+-- the numbers meet every open step
+abbrev pub AreMet : List Step → List ℕ → (ℕ → ℕ) → Type 0
+AreMet steps amounts numbers =
+    (k : ℕ) → k < length steps → IsOpen amounts (step_at steps k) → Meets numbers (step_at steps k)
