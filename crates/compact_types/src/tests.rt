@@ -133,3 +133,26 @@ fn types_cross_threads(rt: HostRuntime) -> Result<(), Fail> {
     both(&Key { worth: 0, places });
     Ok(())
 }
+
+#[test]
+fn what_a_search_hands_on_crosses_threads(rt: HostRuntime) {
+    let alloc = rt.alloc();
+    let choices = Extension {
+        choices: Items::new(alloc),
+    };
+    both(&choices);
+    both(&Branch { id: 0, choices });
+    let x = Flow {
+        amounts: Items::new(alloc),
+    };
+    let y = Flow {
+        amounts: Items::new(alloc),
+    };
+    both(&x);
+    both(&Flows { x, y });
+    both(&Choice {
+        s: 0,
+        t: 1,
+        side: 0,
+    });
+}
