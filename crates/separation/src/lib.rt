@@ -19,4 +19,4 @@ pub use branching::branch_pair;
 pub use complete::is_complete;
 pub use extension::extension_of;
 pub use law::{complete_solutions_are_drawings, drawings_are_apart, drawings_take_a_side};
-pub use sides::{Reach, Sides, is_separated, open_sides};
+pub use sides::{Reach, Sides, is_separated, open_sides, reach_of};

@@ -61,8 +61,8 @@ pub fn open_sides(bars: &Bars, reach: &Reach, s: u32, t: u32) -> Sides
     }
 }
 
-/// The rows of the graphs of the extension.
-pub(crate) fn reach_of(alloc: Global, bars: &Bars, extension: &Extension) -> Result<Reach, NoMemory>
+/// The rows of the two graphs of the extension: which node reaches which.
+pub fn reach_of(alloc: Global, bars: &Bars, extension: &Extension) -> Result<Reach, NoMemory>
     requires { Fit bars.now extension.now.choices }
     ensures { IfOk result (IsReachOf bars.now extension.now.choices) }
 {
