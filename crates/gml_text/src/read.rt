@@ -135,6 +135,7 @@ mod tests {
         let texts = [
             (b"".as_slice(), b"".as_slice()),
             (b"# no pair".as_slice(), b"".as_slice()),
+            (b"a 1".as_slice(), b"a 2 whole 1 ".as_slice()),
             (
                 b"_a1[]B\"\xc3\xb6#]\n\"c -.5E+07 d +0 #x\n".as_slice(),
                 b"_a1 3 [ ] B 6 text \xc3\xb6#]\n c 15 real -.5E+07 d 25 whole +0 ".as_slice(),
