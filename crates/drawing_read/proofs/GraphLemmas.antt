@@ -7,7 +7,7 @@ use Rattle.std.proofs.lemmas.List.Sums.{fails_before_first}
 use Rattle.std.proofs.lemmas.List.Quantifiers.{position-Some}
 use Rattle.gml_text.specs.declared.tree.Pair.{Pair}
 use Rattle.drawing_read.specs.Lookups.{list_under, lists_under}
-use Rattle.drawing_read.specs.inner.Readable.{AreReadable}
+use Rattle.drawing_read.specs.inner.Legible.{AreLegible}
 use Rattle.drawing_read.specs.inner.Passes.{IsFirstGraph, IsOnlyGraph}
 use Rattle.drawing_read.specs.declared.fault.DrawFault.TheVariants.{TwoGraphs}
 use Rattle.drawing_read.specs.declared.lookups.Found.{Found}
@@ -70,14 +70,14 @@ pub graph_there : (pairs : List Pair) (at : ℕ) (pair : Pair) → position is_g
 graph_there pairs at pair first is = ap is_graph is ∙ (position-Some is_graph pairs at pair first).1
 
 pub first_graph_is : (pairs : List Pair) (at : ℕ) (pair : Pair) (list : List Pair) → position is_graph pairs ≡ Some at → pair ≡ get_or pairs at pair →
-    Some list ≡ graph_under pair → (AreReadable pairs → AreReadable list) → IsFirstGraph pairs at list
-first_graph_is pairs at pair list first is there readable = record {
+    Some list ≡ graph_under pair → (AreLegible pairs → AreLegible list) → IsFirstGraph pairs at list
+first_graph_is pairs at pair list first is there legible = record {
   within = (position-Some is_graph pairs at pair first).0;
   place = first;
   lists = first_kept graph_under pairs at pair first
       ∙ ap (λ (pair : Pair). cons_option (graph_under pair) (lists_under (codes "graph") (drop (suc at) pairs))) (sym is)
       ∙ ap (λ (o : Option (List Pair)). cons_option o (lists_under (codes "graph") (drop (suc at) pairs))) (sym there);
-  readable = readable;
+  legible = legible;
 }
 
 -- a graph has a list
@@ -104,5 +104,5 @@ one_graph pairs at list rest None first is next none = record {
   within = first.within;
   place = first.place;
   only = first.lists ∙ ap (λ (rest : List Pair). list ∷ lists_under (codes "graph") rest) (sym is) ∙ ap (λ (lists : List (List Pair)). list ∷ lists) next;
-  readable = first.readable;
+  legible = first.legible;
 }

@@ -13,3 +13,5 @@ pub use Rattle.drawing_read.proofs.EndLemmas.{end_below, pieces_join_vertices}
 -- the spots of a graph are its coordinates, in document order
 pub use Rattle.drawing_read.proofs.CoordinateCases.{spot_is_coordinate, coordinate_is_spot}
 pub use Rattle.drawing_read.proofs.SpotOrder.{graph_in_order}
+-- a tree as it is read from a text can be read as a drawing
+pub use Rattle.drawing_read.proofs.LegibleWords.{readable_legible}

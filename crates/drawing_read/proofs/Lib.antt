@@ -1,4 +1,5 @@
-pub mod ReadableLemmas
+pub mod LegibleWords
+pub mod LegibleLemmas
 pub mod LookupLemmas
 pub mod Steps
 pub mod RefusedLemmas

@@ -1,4 +1,4 @@
--- What is written in a readable list is small.
+-- What is written in a legible list is small.
 use Rattle.std.proofs.Common.{◌≡◌, ℕ, ◌+◌, ◌≤◌, Bool, true, false, cond, List, [], ◌∷◌, length, Option, None, Some, refl, ap, ◌∙◌, sum_by, arith}
 use Rattle.std.specs.Prelude.{option_and_then, unwrap_or, codes}
 use Rattle.std.specs.List.{filter_map, cons_option, find}
@@ -13,7 +13,7 @@ use Rattle.drawing_read.specs.Lookups.{has_key, list_in, first_under, first_list
 use Rattle.drawing_read.specs.Written.{node_in, edge_of, edge_in, point_in, line_of, graph_of}
 use Rattle.gml_text.specs.PairCounts.{count_in_value, count_in_pair}
 use Rattle.gml_text.proofs.Laws.{pair_with_value, tree_count, value_count}
-use Rattle.drawing_read.specs.inner.Readable.{AreReadable}
+use Rattle.drawing_read.specs.inner.Legible.{AreLegible}
 use Rattle.drawing_read.specs.inner.Passes.{point_count, IsSmall}
 
 abbrev weight : List Pair → ℕ
@@ -109,10 +109,10 @@ kept_and_points h [] = omega arith
 kept_and_points h (pair ∷ pairs) =
     omega (arith, weight_cons pair pairs, length_next (h pair) (filter_map h pairs), points_next pair (edge_in pair) (filter_map edge_in pairs) refl, kept_and_points h pairs)
 
-pub graph_small : (pairs : List Pair) → AreReadable pairs → IsSmall (graph_of pairs)
-graph_small pairs readable = record {
-  nodes = omega (arith, kept_below node_in pairs, readable.few);
-  edges = omega (arith, kept_below edge_in pairs, readable.few);
-  points = λ k d below. omega (arith, get_or-le-sum_by size_of (filter_map edge_in pairs) k d below, kept_and_points edge_in pairs, readable.few);
-  vertices = omega (arith, kept_and_points node_in pairs, readable.few);
+pub graph_small : (pairs : List Pair) → AreLegible pairs → IsSmall (graph_of pairs)
+graph_small pairs legible = record {
+  nodes = omega (arith, kept_below node_in pairs, legible.few);
+  edges = omega (arith, kept_below edge_in pairs, legible.few);
+  points = λ k d below. omega (arith, get_or-le-sum_by size_of (filter_map edge_in pairs) k d below, kept_and_points edge_in pairs, legible.few);
+  vertices = omega (arith, kept_and_points node_in pairs, legible.few);
 }

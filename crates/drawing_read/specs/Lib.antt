@@ -1,3 +1,4 @@
+pub mod Legible
 pub mod Lookups
 pub mod Numerals
 pub mod Written

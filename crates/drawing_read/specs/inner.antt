@@ -1,2 +1,2 @@
-pub mod Readable
+pub mod Legible
 pub mod Passes

@@ -3,12 +3,12 @@
 ghost use Rattle.std.specs.Prelude.{◌≡◌, ◌<◌, ◌≤◌, ◌^◌, length, is_none, All, IfSome};
 ghost use Rattle.std.specs.Ordering.{int_eq};
 ghost use Rattle.std.specs.List.{position};
-ghost use Rattle.std.specs.Option.{option_map};
+ghost use Rattle.std.specs.Option.{option_map, option_or};
 ghost use Rattle.indexmap.specs.IndexMap.{get};
 ghost use Rattle.drawing_read.specs.Ids.{number_of_id, ids_of, first_repeated};
 ghost use Rattle.drawing_read.specs.Spans.{points_in, pieces_in};
 ghost use Rattle.drawing_read.specs.Faults as faults;
-ghost use Rattle.drawing_read.specs.inner.Readable.{most_pairs};
+ghost use Rattle.drawing_read.specs.inner.Legible.{most_pairs};
 ghost use Rattle.drawing_read.specs.inner.Passes.{IsSmall};
 
 use crate::fault::DrawFault;
@@ -38,8 +38,7 @@ pub(crate) fn first_fault(
 {
     first_that_is(&[
         no_node(graph),
-        no_id(graph),
-        bad_id(graph),
+        missing_or_bad_id(graph),
         repeated_id(ids),
         no_place(graph),
         bad_number(graph),
@@ -72,6 +71,18 @@ fn no_node(graph: &Graph) -> Option<DrawFault>
     } else {
         None
     }
+}
+
+/// A node without an id; where each has one, a node with a bad one.
+fn missing_or_bad_id(graph: &Graph) -> Option<DrawFault>
+    requires { IsSmall graph.now }
+    ensures { result ≡ option_or
+        (option_map (λ n. DrawFault.NoId n)
+        (position (λ node. faults.is_absent node.id) graph.now.nodes))
+        (option_map (λ n. DrawFault.BadId n)
+        (position (λ node. faults.is_unfit node.id) graph.now.nodes)) }
+{
+    no_id(graph).or_else(|| bad_id(graph))
 }
 
 /// A node without an id.

@@ -10,7 +10,7 @@ ghost use Rattle.drawing_read.specs.Ids.{number_of_id, ids_of};
 ghost use Rattle.drawing_read.specs.Spans.{points_in, spans_in, pieces_in};
 ghost use Rattle.drawing_read.specs.Faults.{graph_fault};
 ghost use Rattle.drawing_read.specs.Readings.{IsGraphReading};
-ghost use Rattle.drawing_read.specs.inner.Readable.{most_pairs, AreReadable};
+ghost use Rattle.drawing_read.specs.inner.Legible.{most_pairs, AreLegible};
 ghost use Rattle.drawing_read.specs.inner.Passes.{IsSmall};
 
 use crate::fault::DrawFault;
@@ -41,7 +41,7 @@ pub(crate) fn graph_reading(
     pairs: &[Pair],
 ) -> Result<Reading, Refusal<DrawFault>>
     requires place { at ≤ most_pairs }
-    requires pairs { AreReadable pairs.now }
+    requires pairs { AreLegible pairs.now }
     ensures reading { IfOk result (λ reading. IsGraphReading at pairs.now reading) }
     ensures fault { IfFault result (λ fault. graph_fault (graph_of pairs.now) ≡ Some fault) }
 {

@@ -5,7 +5,7 @@ ghost use Rattle.std.specs.Ordering.{int_eq};
 ghost use Rattle.indexmap.specs.IndexMap.{get, Updates};
 ghost use Rattle.drawing_read.specs.Ids as ids;
 ghost use Rattle.drawing_read.specs.Faults.{has_unknown_end};
-ghost use Rattle.drawing_read.specs.inner.Readable.{most_pairs};
+ghost use Rattle.drawing_read.specs.inner.Legible.{most_pairs};
 
 use crate::numerals::WholeNumber;
 use crate::written::{Edge, Node};

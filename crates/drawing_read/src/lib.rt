@@ -26,8 +26,8 @@ mod written;
 pub use fault::DrawFault;
 pub use limits::MOST_PIECES_READ;
 pub use promises::{
-    alike_trees_have_one_reading, readings_are_within_limits, spots_are_the_coordinates,
-    trees_have_one_answer,
+    alike_trees_have_one_reading, readable_trees_are_legible, readings_are_within_limits,
+    spots_are_the_coordinates, trees_have_one_answer,
 };
 pub use read::read_drawing;
 pub use reading::{Reading, Spot};

@@ -3,7 +3,7 @@
 ghost use Rattle.std.specs.Prelude.{◌≡◌, ◌<◌, length, IfSome, None, MatchOption};
 ghost use Rattle.std.specs.Option.{option_copied};
 ghost use Rattle.drawing_read.specs.Lookups as lookups;
-ghost use Rattle.drawing_read.specs.inner.Readable.{IsReadablePair, AreReadable};
+ghost use Rattle.drawing_read.specs.inner.Legible.{IsLegiblePair, AreLegible};
 
 use compact_types::Items;
 use gml_text::{Pair, Value};
@@ -25,7 +25,7 @@ pub(crate) fn has_key(key: &[u8], pair: &Pair) -> bool
 /// The first pair with this key, whatever kind its value has.
 pub(crate) fn first_under<'a>(key: &[u8], pairs: &'a [Pair]) -> Option<&'a Pair>
     ensures pair { option_copied result ≡ lookups.first_under key.now pairs.now }
-    ensures readable { AreReadable pairs.now → IfSome result (λ pair. IsReadablePair pair.now) }
+    ensures legible { AreLegible pairs.now → IfSome result (λ pair. IsLegiblePair pair.now) }
 {
     pairs.iter().find(|pair| has_key(key, pair))
 }
@@ -35,8 +35,8 @@ pub(crate) fn first_list<'a>(key: &[u8], pairs: &'a [Pair]) -> Option<Found<'a>>
     ensures list { MatchOption result (lookups.first_list key.now pairs.now ≡ None)
         (λ found. lookups.IsListAt key.now pairs.now found.place found.pairs.now) }
     ensures within { IfSome result (λ found. found.place < length pairs.now) }
-    ensures readable { AreReadable pairs.now →
-        IfSome result (λ found. AreReadable found.pairs.now) }
+    ensures legible { AreLegible pairs.now →
+        IfSome result (λ found. AreLegible found.pairs.now) }
 {
     let place = place_under(key, pairs)?;
     let list = list_of(&pairs[place])?;
@@ -49,7 +49,7 @@ pub(crate) fn first_list<'a>(key: &[u8], pairs: &'a [Pair]) -> Option<Found<'a>>
 /// The list of a pair with this key.
 pub(crate) fn list_under<'a>(key: &[u8], pair: &'a Pair) -> Option<&'a Items<Pair>>
     ensures list { option_copied result ≡ lookups.list_under key.now pair.now }
-    ensures readable { IsReadablePair pair.now → IfSome result (λ list. AreReadable list.now) }
+    ensures legible { IsLegiblePair pair.now → IfSome result (λ list. AreLegible list.now) }
 {
     if has_key(key, pair) {
         list_of(pair)
@@ -61,7 +61,7 @@ pub(crate) fn list_under<'a>(key: &[u8], pair: &'a Pair) -> Option<&'a Items<Pai
 /// The list that the pair's value is.
 pub(crate) fn list_of(pair: &Pair) -> Option<&Items<Pair>>
     ensures list { option_copied result ≡ lookups.list_in pair.now.value }
-    ensures readable { IsReadablePair pair.now → IfSome result (λ list. AreReadable list.now) }
+    ensures legible { IsLegiblePair pair.now → IfSome result (λ list. AreLegible list.now) }
 {
     match &pair.value {
         Value::Inner(tree) => Some(&tree.pairs),

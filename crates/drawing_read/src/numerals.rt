@@ -2,7 +2,7 @@
 
 ghost use Rattle.std.specs.Prelude.{◌≡◌};
 ghost use Rattle.drawing_read.specs.Numerals as numerals;
-ghost use Rattle.drawing_read.specs.inner.Readable.{IsReadablePair, AreReadable};
+ghost use Rattle.drawing_read.specs.inner.Legible.{IsLegiblePair, AreLegible};
 
 use crate::lookups::first_under;
 use gml_text::{NumberFault, Pair, Value, thousandths, whole};
@@ -35,7 +35,7 @@ pub enum WholeNumber {
 
 /// The x and the y of a list, where both are numerals.
 pub(crate) fn numbers_in(pairs: &[Pair]) -> Option<Numbers>
-    requires { AreReadable pairs.now }
+    requires { AreLegible pairs.now }
     ensures { result ≡ numerals.numbers_in pairs.now }
 {
     let x = number_under(b"x", pairs)?;
@@ -44,7 +44,7 @@ pub(crate) fn numbers_in(pairs: &[Pair]) -> Option<Numbers>
 }
 
 fn number_under(key: &[u8], pairs: &[Pair]) -> Option<Number>
-    requires { AreReadable pairs.now }
+    requires { AreLegible pairs.now }
     ensures { result ≡ numerals.number_under key.now pairs.now }
 {
     number_of(first_under(key, pairs)?)
@@ -52,7 +52,7 @@ fn number_under(key: &[u8], pairs: &[Pair]) -> Option<Number>
 
 /// The number of a pair whose value is a numeral.
 fn number_of(pair: &Pair) -> Option<Number>
-    requires { IsReadablePair pair.now }
+    requires { IsLegiblePair pair.now }
     ensures { result ≡ numerals.number_of pair.now }
 {
     match &pair.value {
@@ -66,7 +66,7 @@ fn number_of(pair: &Pair) -> Option<Number>
 
 /// What stands under this key, where a whole numeral should stand.
 pub(crate) fn whole_under(key: &[u8], pairs: &[Pair]) -> WholeNumber
-    requires { AreReadable pairs.now }
+    requires { AreLegible pairs.now }
     ensures { result ≡ numerals.whole_under key.now pairs.now }
 {
     match first_under(key, pairs) {
@@ -76,7 +76,7 @@ pub(crate) fn whole_under(key: &[u8], pairs: &[Pair]) -> WholeNumber
 }
 
 fn whole_in(pair: &Pair) -> WholeNumber
-    requires { IsReadablePair pair.now }
+    requires { IsLegiblePair pair.now }
     ensures { result ≡ numerals.whole_in pair.now.value }
 {
     match &pair.value {

@@ -3,15 +3,22 @@
 ghost use Rattle.std.specs.Prelude.{◌≡◌, ◌↔◌, List, [], ◌∷◌, Contains};
 ghost use Rattle.compact_types.specs.Refusals.{HasOneAnswer};
 ghost use Rattle.gml_text.specs.Alike.{IsAlike};
+ghost use Rattle.gml_text.specs.Grammar.{IsReadable};
 ghost use Rattle.gml_text.specs.declared.tree.Tree.{Tree};
 ghost use Rattle.gml_text.specs.declared.tree.Pair.{Pair};
 ghost use Rattle.drawing_read.specs.declared.reading.Reading.{Reading};
 ghost use Rattle.drawing_read.specs.declared.reading.Spot.{Spot};
+ghost use Rattle.drawing_read.specs.Legible.{IsLegible};
 ghost use Rattle.drawing_read.specs.Written.{graph_of};
 ghost use Rattle.drawing_read.specs.Spans.{spans_in};
 ghost use Rattle.drawing_read.specs.Faults.{graphs_of, FirstDrawFault};
 ghost use Rattle.drawing_read.specs.Readings.{graph_place, IsReading, IsWithinLimits};
 ghost use Rattle.drawing_read.specs.Coordinates.{IsCoordinate, AreInDocumentOrder};
+
+/// A law: every tree as it is read from a text is one that `read_drawing` can be asked about.
+pub fn readable_trees_are_legible()
+    ensures { (tree : Tree) → IsReadable tree → IsLegible tree }
+{}
 
 /// A law: every tree has exactly one reading or exactly one first fault, and never both.
 pub fn trees_have_one_answer()

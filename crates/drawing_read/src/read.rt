@@ -4,7 +4,7 @@ ghost use Rattle.std.specs.Prelude.{◌≡◌, ◌<◌, suc, [], length, drop, S
 ghost use Rattle.std.specs.Prelude.{IfOk, IfErr, MatchOption, is_some, codes};
 ghost use Rattle.std.specs.List.{position};
 ghost use Rattle.compact_types.specs.Refusals.{Decides};
-ghost use Rattle.gml_text.specs.Grammar.{IsReadable};
+ghost use Rattle.drawing_read.specs.Legible.{IsLegible};
 ghost use Rattle.drawing_read.specs.Lookups as lookups;
 ghost use Rattle.drawing_read.specs.Faults.{FirstDrawFault, fault_of};
 ghost use Rattle.drawing_read.specs.Readings.{IsReading, IsWithinLimits};
@@ -24,7 +24,7 @@ use std::alloc::Global;
 /// Each vertex is a node or a bend of an edge; a first or a last point of an edge that stands at
 /// its node's own place is no bend. The places are in thousandths.
 pub fn read_drawing(alloc: Global, tree: &Tree) -> Result<Reading, Refusal<DrawFault>>
-    requires { IsReadable tree.now }
+    requires { IsLegible tree.now }
     // The reading where there is one, the first fault where there is none.
     ensures decides { Decides result (IsReading tree.now) (FirstDrawFault tree.now) }
     // What callers may rely on in every reading.

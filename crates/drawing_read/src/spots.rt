@@ -1,12 +1,12 @@
 //! Where the coordinates of nodes and points stand, in document order.
-#![tactic(auto, using(crate::proofs::ReadableLemmas::few_pairs))]
+#![tactic(auto, using(crate::proofs::LegibleLemmas::few_pairs))]
 
 ghost use Rattle.std.specs.Prelude.{◌≡◌, ℕ, List, ◌+◌, ◌<◌, ◌≤◌, ◌^◌, ◌∷◌, []};
 ghost use Rattle.std.specs.Prelude.{◌++◌, IfOk, OnOk, All, codes};
 ghost use Rattle.std.specs.Option.{option_map_or};
 ghost use Rattle.drawing_read.specs.Lookups as lookups;
 ghost use Rattle.drawing_read.specs.Spots as spots;
-ghost use Rattle.drawing_read.specs.inner.Readable.{most_pairs, IsReadablePair, AreReadable};
+ghost use Rattle.drawing_read.specs.inner.Legible.{most_pairs, IsLegiblePair, AreLegible};
 
 use crate::lookups::{first_list, has_key, list_of, list_under, place_under};
 use crate::reading::Spot;
@@ -24,7 +24,7 @@ pub(crate) fn graph_spots(
 ) -> Result<Items<Spot>, NoMemory>
     requires place { at ≤ most_pairs }
     requires spans { All (λ span. span.first + span.bends < 2 ^ 32) edges.now }
-    requires pairs { AreReadable pairs.now }
+    requires pairs { AreLegible pairs.now }
     ensures { IfOk result
         (λ list. list ≡ spots.graph_spots (at ∷ []) edges.now 0 0 0 pairs.now) }
 {
@@ -68,7 +68,7 @@ impl Walk {
     /// Passes the pairs of a graph.
     fn graph(&mut self, edges: &[Span], pairs: &[Pair]) -> Result<(), NoMemory>
         requires spans { All (λ span. span.first + span.bends < 2 ^ 32) edges.now }
-        requires pairs { AreReadable pairs.now }
+        requires pairs { AreLegible pairs.now }
         ensures { OnOk result (self.new.spots
             ≡ self.old.spots ++ spots.graph_spots self.old.path edges.now 0 0 0 pairs.now) }
     {
@@ -86,7 +86,7 @@ impl Walk {
     /// Passes a pair that is node n, or no node.
     fn node(&mut self, n: u32, at: usize, pair: &Pair) -> Result<(), NoMemory>
         requires place { at ≤ most_pairs }
-        requires pair { IsReadablePair pair.now }
+        requires pair { IsLegiblePair pair.now }
         ensures path { OnOk result (self.new.path ≡ self.old.path) }
         ensures spots { OnOk result (self.new.spots ≡ self.old.spots
             ++ option_map_or (λ list. spots.node_spots (self.old.path ++ at ∷ []) n list)
@@ -103,7 +103,7 @@ impl Walk {
 
     /// Passes the graphics of a node.
     fn graphics_of_node(&mut self, n: u32, pairs: &[Pair]) -> Result<(), NoMemory>
-        requires { AreReadable pairs.now }
+        requires { AreLegible pairs.now }
         ensures path { OnOk result (self.new.path ≡ self.old.path) }
         ensures spots { OnOk result
             (self.new.spots ≡ self.old.spots ++ spots.node_spots self.old.path n pairs.now) }
@@ -121,7 +121,7 @@ impl Walk {
     fn edge(&mut self, span: Span, at: usize, pair: &Pair) -> Result<(), NoMemory>
         requires place { at ≤ most_pairs }
         requires span { span.first + span.bends < 2 ^ 32 }
-        requires pair { IsReadablePair pair.now }
+        requires pair { IsLegiblePair pair.now }
         ensures path { OnOk result (self.new.path ≡ self.old.path) }
         ensures spots { OnOk result (self.new.spots ≡ self.old.spots
             ++ option_map_or (λ list. spots.edge_spots (self.old.path ++ at ∷ []) span list)
@@ -139,7 +139,7 @@ impl Walk {
     /// Passes the graphics of an edge.
     fn graphics_of_edge(&mut self, span: Span, pairs: &[Pair]) -> Result<(), NoMemory>
         requires span { span.first + span.bends < 2 ^ 32 }
-        requires pairs { AreReadable pairs.now }
+        requires pairs { AreLegible pairs.now }
         ensures path { OnOk result (self.new.path ≡ self.old.path) }
         ensures spots { OnOk result
             (self.new.spots ≡ self.old.spots ++ spots.edge_spots self.old.path span pairs.now) }
@@ -156,7 +156,7 @@ impl Walk {
     /// Passes the line in the graphics of an edge.
     fn line(&mut self, span: Span, pairs: &[Pair]) -> Result<(), NoMemory>
         requires span { span.first + span.bends < 2 ^ 32 }
-        requires pairs { AreReadable pairs.now }
+        requires pairs { AreLegible pairs.now }
         ensures path { OnOk result (self.new.path ≡ self.old.path) }
         ensures spots { OnOk result (self.new.spots ≡ self.old.spots
             ++ spots.line_spots self.old.path span pairs.now) }
@@ -173,7 +173,7 @@ impl Walk {
     /// Passes the points of a line.
     fn points(&mut self, span: Span, pairs: &[Pair]) -> Result<(), NoMemory>
         requires span { span.first + span.bends < 2 ^ 32 }
-        requires pairs { AreReadable pairs.now }
+        requires pairs { AreLegible pairs.now }
         ensures path { OnOk result (self.new.path ≡ self.old.path) }
         ensures spots { OnOk result (self.new.spots
             ≡ self.old.spots ++ spots.point_spots self.old.path span 0 0 pairs.now) }
@@ -191,7 +191,7 @@ impl Walk {
     /// Passes a point of a line, whose place is that of a vertex.
     fn point(&mut self, vertex: u32, at: usize, pair: &Pair) -> Result<(), NoMemory>
         requires place { at ≤ most_pairs }
-        requires pair { IsReadablePair pair.now }
+        requires pair { IsLegiblePair pair.now }
         ensures path { OnOk result (self.new.path ≡ self.old.path) }
         ensures spots { OnOk result (self.new.spots ≡ self.old.spots
             ++ option_map_or (λ list. spots.coordinate_spots (self.old.path ++ at ∷ []) vertex list)
@@ -208,7 +208,7 @@ impl Walk {
 
     /// Passes the x and the y of a list that has both.
     fn coordinates(&mut self, vertex: u32, pairs: &[Pair]) -> Result<(), NoMemory>
-        requires { AreReadable pairs.now }
+        requires { AreLegible pairs.now }
         ensures path { OnOk result (self.new.path ≡ self.old.path) }
         ensures spots { OnOk result (self.new.spots
             ≡ self.old.spots ++ spots.coordinate_spots self.old.path vertex pairs.now) }

@@ -7,7 +7,7 @@ ghost use Rattle.drawing_read.specs.Lookups as lookups;
 ghost use Rattle.drawing_read.specs.Numerals as numerals;
 ghost use Rattle.drawing_read.specs.Written as written;
 ghost use Rattle.drawing_read.specs.inner.Passes.{IsSmall};
-ghost use Rattle.drawing_read.specs.inner.Readable.{IsReadablePair, AreReadable};
+ghost use Rattle.drawing_read.specs.inner.Legible.{IsLegiblePair, AreLegible};
 
 use crate::lookups::{first_list, has_key, list_of, list_under};
 use crate::numerals::{Numbers, WholeNumber, numbers_in, whole_under};
@@ -40,7 +40,7 @@ pub struct Graph {
 /// What is written in a graph.
 #[tactic(auto, using(crate::proofs::SmallLemmas::graph_small))]
 pub(crate) fn written_graph(alloc: Global, pairs: &[Pair]) -> Result<Graph, NoMemory>
-    requires { AreReadable pairs.now }
+    requires { AreLegible pairs.now }
     ensures graph { IfOk result (λ graph. graph ≡ written.graph_of pairs.now) }
     ensures small { IfOk result IsSmall }
 {
@@ -52,7 +52,7 @@ pub(crate) fn written_graph(alloc: Global, pairs: &[Pair]) -> Result<Graph, NoMe
 /// The nodes of a graph, in order.
 #[tactic(auto, using(crate::proofs::Steps::kept_more, crate::proofs::Steps::left_more))]
 fn nodes_of(alloc: Global, pairs: &[Pair]) -> Result<Items<Node>, NoMemory>
-    requires { AreReadable pairs.now }
+    requires { AreLegible pairs.now }
     ensures { IfOk result (λ nodes. nodes ≡ filter_map written.node_in pairs.now) }
 {
     let mut nodes = Items::new(alloc);
@@ -66,7 +66,7 @@ fn nodes_of(alloc: Global, pairs: &[Pair]) -> Result<Items<Node>, NoMemory>
 
 /// The node that a pair is.
 fn node_in(pair: &Pair) -> Option<Node>
-    requires { IsReadablePair pair.now }
+    requires { IsLegiblePair pair.now }
     ensures { result ≡ written.node_in pair.now }
 {
     let pairs = list_under(b"node", pair)?.as_slice();
@@ -78,7 +78,7 @@ fn node_in(pair: &Pair) -> Option<Node>
 
 /// The place in the graphics of a node.
 fn place_in(pairs: &[Pair]) -> Option<Numbers>
-    requires { AreReadable pairs.now }
+    requires { AreLegible pairs.now }
     ensures { result
         ≡ option_and_then numerals.numbers_in (lookups.first_list (codes "graphics") pairs.now) }
 {
@@ -88,7 +88,7 @@ fn place_in(pairs: &[Pair]) -> Option<Numbers>
 /// The edges of a graph, in order.
 #[tactic(auto, using(crate::proofs::Steps::kept_more, crate::proofs::Steps::left_more))]
 fn edges_of(alloc: Global, pairs: &[Pair]) -> Result<Items<Edge>, NoMemory>
-    requires { AreReadable pairs.now }
+    requires { AreLegible pairs.now }
     ensures { IfOk result (λ edges. edges ≡ filter_map written.edge_in pairs.now) }
 {
     let mut edges = Items::new(alloc);
@@ -102,7 +102,7 @@ fn edges_of(alloc: Global, pairs: &[Pair]) -> Result<Items<Edge>, NoMemory>
 
 /// The edge that a pair is.
 fn edge_in(alloc: Global, pair: &Pair) -> Result<Option<Edge>, NoMemory>
-    requires { IsReadablePair pair.now }
+    requires { IsLegiblePair pair.now }
     ensures { IfOk result (λ edge. edge ≡ written.edge_in pair.now) }
 {
     let Some(list) = list_under(b"edge", pair) else {
@@ -121,7 +121,7 @@ fn edge_in(alloc: Global, pair: &Pair) -> Result<Option<Edge>, NoMemory>
 
 /// The points of an edge: none where it has no line.
 fn points_of(alloc: Global, pairs: &[Pair]) -> Result<Items<Option<Numbers>>, NoMemory>
-    requires { AreReadable pairs.now }
+    requires { AreLegible pairs.now }
     ensures { IfOk result
         (λ points. points ≡ filter_map written.point_in (written.line_of pairs.now)) }
 {
@@ -135,7 +135,7 @@ fn points_of(alloc: Global, pairs: &[Pair]) -> Result<Items<Option<Numbers>>, No
 fn line_in(pairs: &[Pair]) -> Option<&[Pair]>
     ensures line { MatchOption result (written.line_in pairs.now ≡ None)
         (λ line. written.line_in pairs.now ≡ Some line.now) }
-    ensures readable { AreReadable pairs.now → IfSome result (λ line. AreReadable line.now) }
+    ensures legible { AreLegible pairs.now → IfSome result (λ line. AreLegible line.now) }
 {
     Some(first_list(b"Line", first_list(b"graphics", pairs)?.pairs)?.pairs)
 }
@@ -143,7 +143,7 @@ fn line_in(pairs: &[Pair]) -> Option<&[Pair]>
 /// The points of a line, in order.
 #[tactic(auto, using(crate::proofs::Steps::kept_more, crate::proofs::Steps::left_more))]
 fn points_in(alloc: Global, line: &[Pair]) -> Result<Items<Option<Numbers>>, NoMemory>
-    requires { AreReadable line.now }
+    requires { AreLegible line.now }
     ensures { IfOk result (λ points. points ≡ filter_map written.point_in line.now) }
 {
     let mut points = Items::new(alloc);
@@ -157,7 +157,7 @@ fn points_in(alloc: Global, line: &[Pair]) -> Result<Items<Option<Numbers>>, NoM
 
 /// The point of a line that a pair is.
 fn point_in(pair: &Pair) -> Option<Option<Numbers>>
-    requires { IsReadablePair pair.now }
+    requires { IsLegiblePair pair.now }
     ensures { result ≡ written.point_in pair.now }
 {
     if has_key(b"point", pair) {
@@ -169,7 +169,7 @@ fn point_in(pair: &Pair) -> Option<Option<Numbers>>
 
 /// The x and the y of a pair whose value is a list with both.
 fn pair_numbers(pair: &Pair) -> Option<Numbers>
-    requires { IsReadablePair pair.now }
+    requires { IsLegiblePair pair.now }
     ensures { result ≡ option_and_then numerals.numbers_in (lookups.list_in pair.now.value) }
 {
     numbers_in(list_of(pair)?.as_slice())

@@ -6,7 +6,7 @@ use Rattle.gml_text.specs.declared.tree.Pair.{Pair}
 use Rattle.drawing_read.specs.declared.written.Edge.{Edge}
 use Rattle.drawing_read.specs.declared.written.Graph.{Graph}
 use Rattle.drawing_read.specs.Lookups.{list_under, lists_under}
-use Rattle.drawing_read.specs.inner.Readable.{most_pairs, AreReadable}
+use Rattle.drawing_read.specs.inner.Legible.{most_pairs, AreLegible}
 use Rattle.drawing_read.specs.declared.numerals.Number.{Number}
 use Rattle.drawing_read.specs.declared.numerals.Numbers.{Numbers}
 use Rattle.drawing_read.specs.declared.refused.RefusedNumber.{RefusedNumber}
@@ -43,11 +43,11 @@ pub record IsFirstGraph (pairs : List Pair) (at : ℕ) (list : List Pair) : Type
   pub place : position (λ pair. is_some (list_under (codes "graph") pair)) pairs ≡ Some at
   pub lists : lists_under (codes "graph") pairs
       ≡ list ∷ lists_under (codes "graph") (drop (suc at) pairs)
-  pub readable : AreReadable pairs → AreReadable list
+  pub legible : AreLegible pairs → AreLegible list
 
 -- and there is no other
 pub record IsOnlyGraph (pairs : List Pair) (at : ℕ) (list : List Pair) : Type 0 where
   pub within : at < length pairs
   pub place : position (λ pair. is_some (list_under (codes "graph") pair)) pairs ≡ Some at
   pub only : lists_under (codes "graph") pairs ≡ list ∷ []
-  pub readable : AreReadable pairs → AreReadable list
+  pub legible : AreLegible pairs → AreLegible list

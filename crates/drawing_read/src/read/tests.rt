@@ -1,4 +1,5 @@
 //! Readings and first faults of short texts.
+#![tactic(auto, using(crate::proofs::LegibleWords::readable_legible))]
 
 use super::*;
 use compact_types::{Axis, Piece, Point};

@@ -1,6 +1,6 @@
 use Rattle.std.proofs.Common.{ap, ◌∙◌}
 use Rattle.gml_text.specs.NumeralKinds.{is_numeral}
-use Rattle.drawing_read.proofs.ReadableLemmas.{numeral_word}
+use Rattle.drawing_read.proofs.LegibleLemmas.{numeral_word}
 use Rattle.drawing_read.proofs.numerals.number_of.Goals as goal
 
 pub thousandths-requires : goal.thousandths-requires

@@ -3,9 +3,9 @@ use Rattle.std.specs.Prelude.{codes}
 use Rattle.std.proofs.lemmas.List.Quantifiers.{position-Some}
 use Rattle.gml_text.specs.declared.tree.Pair.{Pair}
 use Rattle.drawing_read.specs.Lookups.{lists_under}
-use Rattle.drawing_read.specs.inner.Readable.{AreReadable}
+use Rattle.drawing_read.specs.inner.Legible.{AreLegible}
 use Rattle.drawing_read.proofs.GraphLemmas.{no_graph, graph_there, first_graph_is, list_there, is_graph}
-use Rattle.drawing_read.proofs.ReadableLemmas.{readable_at}
+use Rattle.drawing_read.proofs.LegibleLemmas.{legible_at}
 use Rattle.drawing_read.proofs.read.first_graph.Goals as goal
 
 pub returns-in_err-place : goal.returns-in_err-place
@@ -26,5 +26,5 @@ returns c =
     let within = (position-Some is_graph c.args.pairs.now c.in_ok-place.place pair first).0 in
     first_graph_is c.args.pairs.now c.in_ok-place.place pair c.as_slice.result.now first c.index-pairs-place.is
     (ap Some c.as_slice.ensures ∙ c.in_ok-list.ensures.list)
-    (λ readable. subst (λ (list : List Pair). AreReadable list) (sym c.as_slice.ensures)
-    (c.in_ok-list.ensures.readable (readable_at c.args.pairs.now c.in_ok-place.place pair readable within c.index-pairs-place.is)))
+    (λ legible. subst (λ (list : List Pair). AreLegible list) (sym c.as_slice.ensures)
+    (c.in_ok-list.ensures.legible (legible_at c.args.pairs.now c.in_ok-place.place pair legible within c.index-pairs-place.is)))

@@ -3,8 +3,8 @@ use Rattle.compact_types.proofs.Laws.{decides_by_one_answer}
 use Rattle.gml_text.specs.declared.tree.Pair.{Pair}
 use Rattle.gml_text.specs.declared.tree.Tree.{out-Tree}
 use Rattle.drawing_read.specs.Readings.{IsWithinLimits}
-use Rattle.drawing_read.specs.inner.Readable.{AreReadable}
-use Rattle.drawing_read.proofs.ReadableLemmas.{readable_tree, few_pairs}
+use Rattle.drawing_read.specs.inner.Legible.{AreLegible}
+use Rattle.drawing_read.proofs.LegibleLemmas.{legible_tree, few_pairs}
 use Rattle.drawing_read.proofs.ReadingLemmas.{one_answer, reading_of_only, fault_of_only, fault_of_graphs, if_reading}
 use Rattle.drawing_read.proofs.ReadingLimits.{reading_within_limits}
 use Rattle.drawing_read.proofs.read.read_drawing.Goals as goal
@@ -13,11 +13,11 @@ pub graph_reading-requires-clause-place : goal.graph_reading-requires-clause-pla
 graph_reading-requires-clause-place c =
     let same = ap length c.as_slice.ensures in
     let within = c.in-Ok.ensures.ok.within in
-    omega (arith, few_pairs (out-Tree c.args.tree.now).pairs (readable_tree c.args.tree.now c.requires), same)
+    omega (arith, few_pairs (out-Tree c.args.tree.now).pairs (legible_tree c.args.tree.now c.requires), same)
 
 pub graph_reading-requires-clause-pairs : goal.graph_reading-requires-clause-pairs
 graph_reading-requires-clause-pairs c =
-    c.in-Ok.ensures.ok.readable (subst (λ (pairs : List Pair). AreReadable pairs) (sym c.as_slice.ensures) (readable_tree c.args.tree.now c.requires))
+    c.in-Ok.ensures.ok.legible (subst (λ (pairs : List Pair). AreLegible pairs) (sym c.as_slice.ensures) (legible_tree c.args.tree.now c.requires))
 
 pub returns-in-Ok-clause-decides : goal.returns-in-Ok-clause-decides
 returns-in-Ok-clause-decides c =
