@@ -7,6 +7,7 @@ pub mod PathLemmas
 pub mod TurnLemmas
 pub mod SolutionLemmas
 pub mod SimpleLemmas
+pub mod KeyLemmas
 pub mod FilterMaps
 pub mod GraphArcs
 pub mod Solving

@@ -1,12 +1,18 @@
 -- Flows on a graph: amounts on its arcs that bound the length of every solution from below.
-use Rattle.std.specs.Prelude.{◌≡◌, ℕ, ◌<◌, pos, ℤ, ◌-ℤ◌, ◌*ℤ◌, ◌≤ℤ◌, List, length, slice_index_or, ◌==◌, if◌then◌else◌}
+use Rattle.std.specs.Prelude.{◌≡◌, ℕ, ◌<◌, ◌≤◌, pos, ℤ, ◌-ℤ◌, ◌*ℤ◌, ◌≤ℤ◌, List, length, slice_index_or, ◌==◌, if◌then◌else◌}
 use Rattle.compact_types.specs.Sums.{sum_to}
 use Rattle.shape_graphs.specs.declared.graph.Arc.{Arc}
+use Rattle.shape_graphs.specs.declared.graph.TheConstants.{MOST_AMOUNT}
 use Rattle.shape_graphs.specs.Arcs.{arc_at}
 
 -- the amount on an arc
 abbrev pub amount_at : List ℕ → ℕ → ℕ
 amount_at amounts i = slice_index_or amounts i 0
+
+-- one amount for each arc, and none above the most
+pub record IsFlowOn (arcs : List Arc) (amounts : List ℕ) : Type 0 where
+  pub one_for_each : length amounts ≡ length arcs
+  pub most : (i : ℕ) → i < length arcs → amount_at amounts i ≤ MOST_AMOUNT
 
 -- a number where the two nodes are one, else 0
 abbrev pub at_node : ℕ → ℕ → ℤ → ℤ

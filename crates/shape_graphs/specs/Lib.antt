@@ -5,4 +5,6 @@ pub mod Graphs
 pub mod Separation
 pub mod Places
 pub mod Flows
+pub mod Measures
+pub mod Backings
 pub mod inner

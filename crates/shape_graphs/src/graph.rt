@@ -16,6 +16,9 @@ pub const GREATEST_LEAST: i64 = 1_000;
 /// The greatest pull of an arc.
 pub const GREATEST_PULL: i64 = 1_000;
 
+/// The greatest amount of a flow on an arc.
+pub const MOST_AMOUNT: u64 = 999_999_999_999_999;
+
 /// That the number of node `to` is at least `least` above that of `from`. The arc counts with
 /// `pull` times this difference in the length.
 #[derive(Clone, Copy, Debug, PartialEq, Eq)]

@@ -10,7 +10,8 @@ ghost use Rattle.bars.specs.Segments as nodes;
 ghost use Rattle.bars.specs.Sides.{side_axis};
 ghost use Rattle.bars.specs.Solutions.{Fit, IsChoice};
 ghost use Rattle.shape_graphs.specs.Graphs as graphs;
-ghost use Rattle.shape_graphs.specs.Graphs.{IsGraphOf, piece_arcs, piece_arc_along, choice_arc_along};
+ghost use Rattle.shape_graphs.specs.Graphs.{IsGraphOf, arcs_of, piece_arcs};
+ghost use Rattle.shape_graphs.specs.Graphs.{piece_arc_along, choice_arc_along};
 
 use crate::graph::{Arc, DiffGraph};
 use bars::Bars;
@@ -47,10 +48,25 @@ fn graph_along(
 {
     let pieces = bars.shape().plan.pieces.len();
     let mut arcs = Items::from_vec(Vec::with_capacity(alloc, pieces)?);
-    push_pieces(&mut arcs, bars, axis)?;
-    push_choices(&mut arcs, bars, extension.choices.as_slice(), axis)?;
+    push_arcs(&mut arcs, bars, extension.choices.as_slice(), axis)?;
     let nodes = node_count(bars, axis);
     Ok(DiffGraph { nodes, arcs })
+}
+
+/// Adds the arcs of the pieces along the axis, and then those of the choices.
+fn push_arcs(
+    arcs: &mut Items<Arc>,
+    bars: &Bars,
+    choices: &[Choice],
+    axis: Axis,
+) -> Result<(), NoMemory>
+    requires none { arcs.old ≡ [] }
+    requires fit { Fit bars.now choices.now }
+    ensures { OnOk result (arcs.new ≡ arcs_of axis bars.now choices.now) }
+{
+    push_pieces(arcs, bars, axis)?;
+    push_choices(arcs, bars, choices, axis)?;
+    Ok(())
 }
 
 /// Adds the arcs of the pieces along the axis.
