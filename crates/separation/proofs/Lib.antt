@@ -5,3 +5,4 @@ pub mod CandidateLemmas
 pub mod Sorted
 pub mod ReachLemmas
 pub mod ChoosingLemmas
+pub mod Laws

@@ -1,6 +1,6 @@
 //! The pair with the fewest open sides among those that share a point.
 
-ghost use Rattle.std.specs.Prelude.{◌≡◌, ◌<◌, Bool, length, List, None};
+ghost use Rattle.std.specs.Prelude.{◌≡◌, ◌<◌, ◌↔◌, Bool, IsTrue, length, List, None};
 ghost use Rattle.std.specs.List.{count_by};
 ghost use Rattle.compact_types.specs.declared.places.Places.{Places};
 ghost use Rattle.compact_types.specs.declared.search.Choice.{Choice};
@@ -88,11 +88,20 @@ fn with_pair(
     if !overlap(&first, &second) {
         return best;
     }
-    if bars.share_vertex(first.segment, second.segment) {
+    if are_joined(bars, &first, &second) {
         return best;
     }
     let candidate = candidate_of(bars, reach, first.segment, second.segment);
     first_of(best, candidate)
+}
+
+/// Whether the segments of the two extents have a vertex in common.
+fn are_joined(bars: &Bars, a: &Extent, b: &Extent) -> bool
+    requires a { a.now.segment < segment_count bars.now }
+    requires b { b.now.segment < segment_count bars.now }
+    ensures { IsTrue result ↔ ShareVertex bars.now a.now.segment b.now.segment }
+{
+    bars.share_vertex(a.segment, b.segment)
 }
 
 /// The pair of two segments without a common vertex.

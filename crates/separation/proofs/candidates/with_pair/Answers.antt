@@ -12,11 +12,11 @@ returns-then-not-overlap c = λ choices places setting first second.
     both_ways _ (sym c.overlap.ensures ∙ c.if-not-overlap.true)
     ((share_of_these c.args.bars.now setting.drawing places setting.ways c.args.first c.args.second s t first second seen).1 share))
 
-pub returns-then-share_vertex : goal.returns-then-share_vertex
-returns-then-share_vertex c = λ choices places setting first second.
+pub returns-then-are_joined : goal.returns-then-are_joined
+returns-then-are_joined c = λ choices places setting first second.
     no_progress c.args.bars.now choices places c.args.best _
     (λ s t seen pair share.
-    pair.apart (shared_by_these c.args.bars.now c.args.first.segment c.args.second.segment s t seen (c.share_vertex.ensures.0 c.if-share_vertex.true)))
+    pair.apart (shared_by_these c.args.bars.now c.args.first.segment c.args.second.segment s t seen (c.are_joined.ensures.0 c.if-are_joined.true)))
 
 pub returns : goal.returns
 returns c = λ choices places setting first second.
