@@ -13,10 +13,10 @@ use Rattle.shape_graphs.specs.Flows.{at_node, amount_at, net, Balances, bound_of
 use Rattle.diff_flow.proofs.SignedLemmas.{times-sub, times-le, times-same, same_terms}
 
 -- the number at its own node, and at another
-at_same : (a : ℕ) (z : ℤ) → at_node a a z ≡ z
+pub at_same : (a : ℕ) (z : ℤ) → at_node a a z ≡ z
 at_same a z = grind (arith, nat_tests)
 
-at_other : (a b : ℕ) (z : ℤ) → (a ≡ b → ⊥) → at_node a b z ≡ pos 0
+pub at_other : (a b : ℕ) (z : ℤ) → (a ≡ b → ⊥) → at_node a b z ≡ pos 0
 at_other a b z ne = grind (arith, nat_tests)
 
 -- a sum with a term at one node alone
@@ -40,7 +40,7 @@ picked p a z (suc n) inside =
     ]
 
 -- what an arc gives to the sum over the nodes
-arc_share : (p : ℕ → ℤ) (a b : ℕ) (z : ℤ) (n : ℕ) → a < n → b < n →
+pub arc_share : (p : ℕ → ℤ) (a b : ℕ) (z : ℤ) (n : ℕ) → a < n → b < n →
     sum_to (λ v. p v *ℤ (at_node a v z -ℤ at_node b v z)) n ≡ z *ℤ (p a -ℤ p b)
 arc_share p a b z n a_in b_in =
     apart p (λ v. at_node a v z) (λ v. at_node b v z) n

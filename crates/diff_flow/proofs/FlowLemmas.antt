@@ -8,18 +8,11 @@ use Rattle.shape_graphs.specs.declared.graph.Arc.{Arc}
 use Rattle.shape_graphs.specs.Arcs.{arc_at}
 use Rattle.shape_graphs.specs.Flows.{at_node, amount_at, net, Balances, BalancesAt}
 
-at_cases : (a b : ℕ) (P : (ℤ → ℤ) → Type 0) → P (λ z. z) → P (λ z. pos 0) → P (at_node a b)
+pub at_cases : (a b : ℕ) (P : (ℤ → ℤ) → Type 0) → P (λ z. z) → P (λ z. pos 0) → P (at_node a b)
 at_cases a b P same other = elim (Rattle.std.proofs.Common.eqb a b) as (λ t. P (λ z. Rattle.std.proofs.Common.cond t z (pos 0))) [ Rattle.std.proofs.Common.true ↦ same | Rattle.std.proofs.Common.false ↦ other ]
 
 pub at_difference : (a b : ℕ) (x y : ℤ) → at_node a b (x -ℤ y) ≡ at_node a b x -ℤ at_node a b y
 at_difference a b x y = at_cases a b (λ f. f (x -ℤ y) ≡ f x -ℤ f y) refl refl
-
-pub shares_are : (a b node : ℕ) (r s x z : ℤ) → r ≡ at_node a node x → s ≡ at_node b node x → x ≡ z →
-    r -ℤ s ≡ at_node a node z -ℤ at_node b node z
-shares_are a b node r s x z p q e =
-    let p' : r ≡ at_node a node z = p ∙ ap (at_node a node) e in
-    let q' : s ≡ at_node b node z = q ∙ ap (at_node b node) e in
-    omega (arith, ints, p', q')
 
 apart : (arcs : List Arc) (amounts : List ℕ) (node n : ℕ) →
     sum_to (λ i. at_node (arc_at arcs i).to node (pos (amount_at amounts i) -ℤ (arc_at arcs i).pull)

@@ -1,15 +1,15 @@
 -- Tight numbers as numbers that meet steps, and without gaps.
-use Rattle.std.proofs.Common.{◌≡◌, ℕ, zero, suc, ◌+◌, ◌-◌, ◌*◌, ◌<◌, ◌≤◌, ◌⊎◌, inl, inr, List, [], ◌∷◌, length, get_or, map, refl, sym, ap, subst, ◌∙◌, arith, ℤ, pos}
-use Rattle.std.specs.Prelude.{◌≤ℤ◌, ◌-ℤ◌, negsuc, slice_index_or}
+use Rattle.std.proofs.Common.{◌≡◌, ℕ, zero, suc, ◌+◌, ◌-◌, ◌*◌, ◌<◌, inl, inr, List, [], ◌∷◌, length, map, refl, ap, arith, ℤ, pos}
+use Rattle.std.specs.Prelude.{◌≤ℤ◌, ◌-ℤ◌, negsuc}
 use Rattle.std.proofs.lemmas.Int.{ints}
 use Rattle.std.proofs.lemmas.Bool.{cases_lt}
 use Rattle.shape_graphs.specs.declared.graph.Arc.{Arc}
 use Rattle.shape_graphs.specs.Arcs.{arc_at, EndsAreNodes, AreArcsWithin}
-use Rattle.shape_graphs.specs.Flows.{amount_at, over, IsSolution, IsTight}
+use Rattle.shape_graphs.specs.Flows.{amount_at, over}
 use Rattle.diff_flow.specs.Tight.{number_at, AreTight, AreLeastTight}
 use Rattle.diff_flow.specs.declared.steps.Step.{Step}
 use Rattle.diff_flow.specs.inner.Steps.{step_at, IsAlong, IsAgainst, AreStepsOf, IsOpen, Meets, AreMet}
-use Rattle.diff_flow.specs.inner.Numbers.{height, AreLow, AreLeastMet, NoneMeet}
+use Rattle.diff_flow.specs.inner.Numbers.{height, AreLeastMet, NoneMeet}
 use Rattle.diff_flow.proofs.StepLemmas.{by_direction}
 use Rattle.diff_flow.proofs.Gaps.{closed, closed_most, closed_keeps, all_covered}
 
@@ -22,6 +22,11 @@ pub nat_is : (z : ℤ) → pos 0 ≤ℤ z → pos (nat z) ≡ z
 unfolding nat
 nat_is (pos n) h = refl
 nat_is (negsuc n) h = absurd (omega (arith, ints))
+
+pub nat_some : (z : ℤ) → 0 < nat z → pos 1 ≤ℤ z
+unfolding nat
+nat_some (pos n) some = omega (arith, ints, some)
+nat_some (negsuc n) some = absurd (omega (arith, some))
 
 -- tight numbers meet the steps
 module _ (nodes : ℕ) (arcs : List Arc) (steps : List Step) (amounts : List ℕ) (ends : EndsAreNodes nodes arcs) (are : AreStepsOf arcs steps) where

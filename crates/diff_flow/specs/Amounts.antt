@@ -1,14 +1,10 @@
 -- The amounts that a flow may have.
-use Rattle.std.specs.Prelude.{◌≡◌, ℕ, ◌<◌, ◌≤◌, pos, List, length}
+use Rattle.std.specs.Prelude.{◌≡◌, ℕ, ◌<◌, pos, List, length}
 use Rattle.shape_graphs.specs.declared.graph.Arc.{Arc}
 use Rattle.shape_graphs.specs.Flows.{amount_at, BalancesAt}
 use Rattle.shape_graphs.specs.Arcs.{arc_at}
-use Rattle.diff_flow.specs.declared.TheConstants.{MOST_AMOUNT}
-
 -- one amount for each arc, and none above the most
-pub record IsFlowOn (arcs : List Arc) (amounts : List ℕ) : Type 0 where
-  pub one_for_each : length amounts ≡ length arcs
-  pub most : (i : ℕ) → i < length arcs → amount_at amounts i ≤ MOST_AMOUNT
+pub use Rattle.shape_graphs.specs.Flows.{IsFlowOn}
 
 -- the least of so many nodes at which the amounts do not balance
 pub record IsFirstUnbalanced (nodes : ℕ) (arcs : List Arc) (amounts : List ℕ) (node : ℕ) : Type 0 where

@@ -1,4 +1,5 @@
 pub mod Amounts
 pub mod Tight
+pub mod Improving
 pub mod Shortest
 pub mod inner

@@ -1,2 +1,5 @@
+pub mod Surpluses
 pub mod Steps
 pub mod Numbers
+pub mod Search
+pub mod Routing

@@ -2,21 +2,36 @@
 
 ghost use Rattle.std.specs.Prelude.{
   ◌≡◌,
+  ℕ,
+  ◌+◌,
   ◌^◌,
+  ◌<◌,
   ◌≤◌,
   pos,
+  ◌+ℤ◌,
   ◌-ℤ◌,
   ◌*ℤ◌,
   ◌≤ℤ◌,
   length,
   IfOk,
+  MatchOption,
   MatchResult,
 };
-ghost use Rattle.shape_graphs.specs.Arcs.{arc_at, AreArcsWithin, IsArcWithin};
-ghost use Rattle.shape_graphs.specs.declared.graph.TheConstants.{MOST_ARCS};
-ghost use Rattle.shape_graphs.specs.Flows.{at_node, Balances, bound_of, net, amount_at};
+ghost use Rattle.compact_types.specs.Magnitudes.{IsWithin};
+ghost use Rattle.shape_graphs.specs.Arcs.{AreArcsWithin, IsArcWithin};
+ghost use Rattle.shape_graphs.specs.declared.graph.TheConstants.{MOST_AMOUNT, MOST_ARCS};
+ghost use Rattle.shape_graphs.specs.Flows.{at_node, Balances, bound_of};
 ghost use Rattle.diff_flow.specs.Amounts.{ArePulls, IsFlowOn, IsFirstUnbalanced};
-ghost use Rattle.diff_flow.specs.declared.TheConstants.{MOST_AMOUNT};
+ghost use Rattle.diff_flow.specs.Tight.{number_at};
+ghost use Rattle.diff_flow.specs.declared.flow.TheConstants.{BLOCK};
+ghost use Rattle.diff_flow.specs.inner.Surpluses.{
+  AreNothing,
+  AreSurpluses,
+  BalanceBelow,
+  IsFirstSome,
+  NumbersAreWithin,
+  brought,
+};
 
 use crate::MOST_AMOUNT;
 use compact_types::{Flow, Items, NoMemory};
@@ -73,58 +88,121 @@ fn amount_times_least(amount: u64, arc: Arc) -> i128
     amount as i128 * arc.least as i128
 }
 
-/// Whether the flow balances; otherwise the least node at which it does not.
+/// How many nodes have their surpluses added up in one pass over the arcs. The sums take 16 KiB.
+const BLOCK: u32 = 1_024;
+
+/// Whether the flow balances; otherwise the least node at which it does not. It goes over the arcs
+/// once for each 1,024 nodes, and takes no memory.
 pub fn balanced(graph: &DiffGraph, flow: &Flow) -> Result<(), u32>
     requires { IsFlowOn graph.now.arcs flow.now.amounts }
     ensures { MatchResult result
         (λ _. Balances graph.now.nodes graph.now.arcs flow.now.amounts)
         (λ node. IsFirstUnbalanced graph.now.nodes graph.now.arcs flow.now.amounts node) }
 {
-    let arcs = graph.arcs.as_slice();
-    let amounts = flow.amounts.as_slice();
-    for node in 0..graph.nodes {
-        if surplus(arcs, amounts, node) != 0 {
+    for block in 0..graph.nodes.div_ceil(BLOCK) {
+        if let Some(node) = unbalanced_from(graph, flow, block * BLOCK) {
             return Err(node);
         }
     }
     Ok(())
 }
 
-/// What comes in at the node by the amounts, above what comes in by the pulls.
-fn surplus(arcs: &[Arc], amounts: &[u64], node: u32) -> i128
+/// The least node of the block from `first` on at which the flow does not balance.
+fn unbalanced_from(graph: &DiffGraph, flow: &Flow, first: u32) -> Option<u32>
+    requires flow { IsFlowOn graph.now.arcs flow.now.amounts }
+    requires first { first < graph.now.nodes }
+    requires before { BalanceBelow first graph.now.nodes graph.now.arcs flow.now.amounts }
+    ensures { MatchOption result
+        (BalanceBelow (first + BLOCK) graph.now.nodes graph.now.arcs flow.now.amounts)
+        (IsFirstUnbalanced graph.now.nodes graph.now.arcs flow.now.amounts) }
+{
+    let mut room = [0; BLOCK as usize];
+    unbalanced_in(&mut room, graph, flow, first)
+}
+
+/// The same, with room for the sums of a block, which are all 0.
+fn unbalanced_in(room: &mut [i128], graph: &DiffGraph, flow: &Flow, first: u32) -> Option<u32>
+    requires room { length room.old ≡ BLOCK }
+    requires none { AreNothing room.old }
+    requires flow { IsFlowOn graph.now.arcs flow.now.amounts }
+    requires first { first < graph.now.nodes }
+    requires before { BalanceBelow first graph.now.nodes graph.now.arcs flow.now.amounts }
+    ensures { MatchOption result
+        (BalanceBelow (first + BLOCK) graph.now.nodes graph.now.arcs flow.now.amounts)
+        (IsFirstUnbalanced graph.now.nodes graph.now.arcs flow.now.amounts) }
+{
+    let count = BLOCK.min(graph.nodes - first) as usize;
+    let sums = &mut room[..count];
+    add_surpluses(sums, graph.arcs.as_slice(), flow.amounts.as_slice(), first);
+    match first_that_is_some(sums) {
+        None => None,
+        Some(place) => Some(first + place as u32),
+    }
+}
+
+/// Makes each sum the surplus of its node: what comes in by the amounts, above what comes in by
+/// the pulls. The sums are those of the nodes from `first` on.
+fn add_surpluses(sums: &mut [i128], arcs: &[Arc], amounts: &[u64], first: u32)
     requires flow { IsFlowOn arcs.now amounts.now }
     requires few { length arcs.now ≤ MOST_ARCS }
     requires within { AreArcsWithin arcs.now }
-    ensures { result ≡ net arcs.now (λ i. pos (amount_at amounts.now i)) node
-        -ℤ net arcs.now (λ i. (arc_at arcs.now i).pull) node }
+    requires none { AreNothing sums.old }
+    ensures len { length sums.new ≡ length sums.old }
+    ensures surpluses { AreSurpluses arcs.now amounts.now first sums.new }
 {
-    let mut sum: i128 = 0;
     for i in 0..arcs.len() {
-        sum += surplus_by(arcs[i], amounts[i], node);
+        add_arc(sums, arcs[i], above_pull(amounts[i], arcs[i]), first);
     }
-    sum
 }
 
-/// What the arc adds to the surplus of the node.
-fn surplus_by(arc: Arc, amount: u64, node: u32) -> i128
+/// How far the amount of the arc is above its pull.
+fn above_pull(amount: u64, arc: Arc) -> i128
     requires amount { amount ≤ MOST_AMOUNT }
     requires arc { IsArcWithin arc }
-    ensures value { result ≡ at_node arc.to node (pos amount -ℤ arc.pull)
-        -ℤ at_node arc.from node (pos amount -ℤ arc.pull) }
-    ensures low { (pos 0 -ℤ pos (2 ^ 60)) ≤ℤ result }
-    ensures high { result ≤ℤ pos (2 ^ 60) }
+    ensures value { result ≡ pos amount -ℤ arc.pull }
+    ensures small { IsWithin (2 ^ 50) result }
 {
-    let more = amount as i128 - arc.pull as i128;
-    where_same(arc.to, node, more) - where_same(arc.from, node, more)
+    amount as i128 - arc.pull as i128
 }
 
-/// The number where the two nodes are one, else 0.
-fn where_same(a: u32, b: u32, number: i128) -> i128
-    requires low { (pos 0 -ℤ pos (2 ^ 50)) ≤ℤ number }
-    requires high { number ≤ℤ pos (2 ^ 50) }
-    ensures value { result ≡ at_node a b number }
-    ensures low { (pos 0 -ℤ pos (2 ^ 50)) ≤ℤ result }
-    ensures high { result ≤ℤ pos (2 ^ 50) }
+/// Adds what the arc brings in at the nodes from `first` on, where it carries so much.
+fn add_arc(sums: &mut [i128], arc: Arc, carried: i128, first: u32)
+    requires carried { IsWithin (2 ^ 50) carried }
+    requires small { NumbersAreWithin (2 ^ 99) sums.old }
+    ensures len { length sums.new ≡ length sums.old }
+    ensures values { (k : ℕ) → k < length sums.old →
+        number_at sums.new k ≡ number_at sums.old k +ℤ brought arc carried (first + k) }
 {
-    if a == b { number } else { 0 }
+    add_at(sums, first, arc.to, carried);
+    add_at(sums, first, arc.from, -carried);
+}
+
+/// Adds the number to the sum of the node, where it is one of those from `first` on.
+fn add_at(sums: &mut [i128], first: u32, node: u32, more: i128)
+    requires more { IsWithin (2 ^ 50) more }
+    requires small { NumbersAreWithin (2 ^ 100) sums.old }
+    ensures len { length sums.new ≡ length sums.old }
+    ensures values { (k : ℕ) → k < length sums.old →
+        number_at sums.new k ≡ number_at sums.old k +ℤ at_node node (first + k) more }
+{
+    if node < first {
+        return;
+    }
+    let place = (node - first) as usize;
+    if place >= sums.len() {
+        return;
+    }
+    sums[place] += more;
+}
+
+/// The first place at which a number other than 0 stands.
+fn first_that_is_some(sums: &[i128]) -> Option<usize>
+    ensures { MatchOption result (AreNothing sums.now) (IsFirstSome sums.now) }
+{
+    for k in 0..sums.len() {
+        if sums[k] != 0 {
+            return Some(k);
+        }
+    }
+    None
 }

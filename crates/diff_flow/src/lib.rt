@@ -2,18 +2,30 @@
 //!
 //! The layer above relies on both sides of duality: a balanced flow bounds the length of every
 //! solution from below, and a flow with tight numbers is best. `least_tight` finds the least of
-//! these numbers, or that there are none.
+//! these numbers, or that there are none. `improve` makes a flow better until it is best, and shows
+//! that a best flow of a graph without cycles has tight numbers.
+//!
+//! A better flow is found from the longest walks: what a flow has on arcs that these leave slack is
+//! dropped, and what is then in excess at some nodes is sent along tight arcs to the nodes that
+//! lack, while the numbers rise (`route`, `search`).
 #![tactic(auto)]
 
+mod detour;
 mod flow;
+mod improving;
 mod labels;
-mod laws;
+mod law;
+mod route;
+mod search;
 mod steps;
+#[cfg(test)]
+mod tests;
 mod tight;
 
 pub use flow::{balanced, bound, first_flow};
-pub use laws::{flows_bound_lengths, least_numbers_have_no_gaps, least_solutions_meet};
+pub use improving::{Improved, improve};
+pub use law::{
+    amounts_are_low, flows_bound_lengths, least_numbers_have_no_gaps, least_solutions_meet,
+};
+pub use shape_graphs::MOST_AMOUNT;
 pub use tight::least_tight;
-
-/// The greatest amount of a flow on an arc.
-pub const MOST_AMOUNT: u64 = 999_999_999_999_999;

@@ -1,10 +1,11 @@
 //! The steps that numbers on the nodes have to meet, and a search takes: forwards over each arc,
 //! and backwards over each.
 
-ghost use Rattle.std.specs.Prelude.{◌≡◌, ◌≤◌, ◌<◌, ◌+◌, ◌≤ℤ◌, pos, ℕ, length, IfOk};
+ghost use Rattle.std.specs.Prelude.{◌≡◌, ◌≤◌, ◌<◌, ◌+◌, ◌-◌, ◌*◌, ◌^◌, ◌≤ℤ◌, pos, ℕ, length, IfOk};
 ghost use Rattle.shape_graphs.specs.declared.graph.TheConstants.{MOST_ARCS};
 ghost use Rattle.shape_graphs.specs.Arcs.{arc_at, AreArcsWithin, IsArcWithin};
 ghost use Rattle.diff_flow.specs.inner.Steps.{
+  ArePaired,
   AreRows,
   AreStepsOf,
   AreStepsWithin,
@@ -40,8 +41,11 @@ pub(crate) struct Steps {
     pub(crate) rows: Rows,
     pub(crate) ghost few: { length list.items ≤ 2_000_000_000 },
     pub(crate) ghost low: { reach ≤ 1000 },
+    pub(crate) ghost short: { (nodes - 1) * reach ≤ 2 ^ 42 },
     pub(crate) ghost within: { AreStepsWithin nodes arcs reach list.items },
-    pub(crate) ghost by_node: { AreRows nodes (length list.items) list.items rows.last.items rows.before.items },
+    pub(crate) ghost paired: { ArePaired arcs list.items },
+    pub(crate) ghost by_node: { AreRows nodes (length list.items) list.items
+        rows.last.items rows.before.items },
 }
 
 impl Steps {

@@ -14,10 +14,12 @@ abbrev pub IsIn : List ℕ → ℕ → Type 0
 IsIn list value = (k : ℕ) × (k < length list) × (slice_index list k ≡ value)
 
 -- at most the limit, and at most all numbers that meet the open steps
-pub record AreLow (nodes : ℕ) (steps : List Step) (amounts : List ℕ) (limit : ℕ) (numbers : List ℕ) : Type 0 where
+pub record AreLow (nodes : ℕ) (steps : List Step) (amounts : List ℕ) (limit : ℕ)
+    (numbers : List ℕ) : Type 0 where
   pub one_for_each : length numbers ≡ nodes
   pub inside : (v : ℕ) → v < nodes → height numbers v ≤ limit
-  pub below : (others : ℕ → ℕ) → AreMet steps amounts others → (v : ℕ) → v < nodes → height numbers v ≤ others v
+  pub below : (others : ℕ → ℕ) → AreMet steps amounts others → (v : ℕ) → v < nodes →
+      height numbers v ≤ others v
 
 -- no numbers meet the open steps
 abbrev pub NoneMeet : List Step → List ℕ → Type 0
@@ -31,7 +33,8 @@ pub record IsLift (step : Step) (old new : List ℕ) (low : ℕ) : Type 0 where
 
 -- what became of the numbers at a step that has this amount on its arc
 abbrev pub Lifts : Step → ℕ → ℕ → List ℕ → List ℕ → Lifted → Type 0
-Lifts step amount limit old new Kept = (new ≡ old) × (0 < step.up + amount → Meets (height old) step)
+Lifts step amount limit old new Kept = (new ≡ old)
+    × (0 < step.up + amount → Meets (height old) step)
 Lifts step amount limit old new Raised =
     (0 < step.up + amount) × ((low : ℕ) × IsLift step old new low × (low ≤ limit))
 Lifts step amount limit old new TooHigh =
@@ -56,7 +59,8 @@ pub record Rises (nodes : ℕ) (steps : List Step) (amounts : List ℕ) (limit :
   pub low : AreLow nodes steps amounts limit numbers
   pub lists : AreListed nodes waits queue
   pub met : (k : ℕ) → k < length steps → IsOpen amounts (step_at steps k) →
-      (0 < slice_index waits (step_at steps k).from) ⊎ Meets (height numbers) (step_at steps k) ⊎ late k
+      (0 < slice_index waits (step_at steps k).from) ⊎ Meets (height numbers) (step_at steps k)
+      ⊎ late k
 
 -- of the steps of the node those below the entry
 abbrev pub AreLate : List Step → ℕ → ℕ → ℕ → Type 0
@@ -67,6 +71,7 @@ abbrev pub NoneLate : ℕ → Type 0
 NoneLate k = ⊥
 
 -- the least numbers that meet the open steps
-pub record AreLeastMet (nodes : ℕ) (steps : List Step) (amounts : List ℕ) (limit : ℕ) (numbers : List ℕ) : Type 0 where
+pub record AreLeastMet (nodes : ℕ) (steps : List Step) (amounts : List ℕ) (limit : ℕ)
+    (numbers : List ℕ) : Type 0 where
   pub low : AreLow nodes steps amounts limit numbers
   pub met : AreMet steps amounts (height numbers)

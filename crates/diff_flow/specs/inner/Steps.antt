@@ -1,5 +1,6 @@
 -- Steps between nodes, forwards over each arc and backwards over each.
-use Rattle.std.specs.Prelude.{◌≡◌, ℕ, ◌+◌, ◌-◌, ◌<◌, ◌≤◌, pos, List, length, slice_index, slice_index_or}
+use Rattle.std.specs.Prelude.{◌≡◌, ℕ, ◌+◌, ◌-◌, ◌<◌, ◌≤◌, pos, List, length}
+use Rattle.std.specs.Prelude.{slice_index, slice_index_or}
 use Rattle.shape_graphs.specs.declared.graph.Arc.{Arc}
 use Rattle.shape_graphs.specs.Arcs.{arc_at}
 use Rattle.shape_graphs.specs.Flows.{amount_at}
@@ -13,7 +14,8 @@ no_step = record { from = 0; to = 0; arc = 0; up = 0; down = 0 }
 abbrev pub step_at : List Step → ℕ → Step
 step_at steps k = slice_index_or steps k no_step
 
--- the ends of every step are nodes, it belongs to an arc, and it goes up or down by at most the reach
+-- the ends of every step are nodes, it belongs to an arc, and it goes up or down by at most the
+-- reach
 pub record IsStepWithin (nodes arcs reach : ℕ) (step : Step) : Type 0 where
   pub from : step.from < nodes
   pub to : step.to < nodes
@@ -22,15 +24,17 @@ pub record IsStepWithin (nodes arcs reach : ℕ) (step : Step) : Type 0 where
   pub down : step.down ≤ reach
 
 abbrev pub AreStepsWithin : ℕ → ℕ → ℕ → List Step → Type 0
-AreStepsWithin nodes arcs reach steps = (k : ℕ) → k < length steps → IsStepWithin nodes arcs reach (step_at steps k)
+AreStepsWithin nodes arcs reach steps = (k : ℕ) → k < length steps →
+    IsStepWithin nodes arcs reach (step_at steps k)
 
--- The first so many steps by the node that they begin at: the last of each node, and before each the
--- next; an entry is the number of a step and one more, 0 where there is none.
+-- The first so many steps by the node that they begin at: the last of each node, and before each
+-- the next; an entry is the number of a step and one more, 0 where there is none.
 pub record AreRows (nodes count : ℕ) (steps : List Step) (last before : List ℕ) : Type 0 where
   pub last_for_each : length last ≡ nodes
   pub before_for_each : length before ≡ count
   pub last_most : (v : ℕ) → v < nodes → slice_index last v ≤ count
-  pub last_from : (v : ℕ) → v < nodes → 0 < slice_index last v → (step_at steps (slice_index last v - 1)).from ≡ v
+  pub last_from : (v : ℕ) → v < nodes → 0 < slice_index last v →
+      (step_at steps (slice_index last v - 1)).from ≡ v
   pub last_all : (k : ℕ) → k < count → k < slice_index last (step_at steps k).from
   pub before_most : (k : ℕ) → k < count → slice_index before k ≤ k
   pub before_from : (k : ℕ) → k < count → 0 < slice_index before k →
@@ -58,7 +62,24 @@ pub record IsAgainst (arc : Arc) (i : ℕ) (step : Step) : Type 0 where
 pub record AreStepsOf (arcs : List Arc) (steps : List Step) : Type 0 where
   pub two_for_each : length steps ≡ length arcs + length arcs
   pub along : (i : ℕ) → i < length arcs → IsAlong (arc_at arcs i) i (step_at steps i)
-  pub against : (i : ℕ) → i < length arcs → IsAgainst (arc_at arcs i) i (step_at steps (length arcs + i))
+  pub against : (i : ℕ) → i < length arcs →
+      IsAgainst (arc_at arcs i) i (step_at steps (length arcs + i))
+
+-- the step goes back over the other, against its arc
+pub record IsBack (step back : Step) : Type 0 where
+  pub from : back.from ≡ step.to
+  pub to : back.to ≡ step.from
+  pub arc : back.arc ≡ step.arc
+  pub up : back.up ≡ 0
+  pub down : back.down ≡ step.up
+
+-- each of so many arcs has a step along it, which goes up, and one against it
+pub record ArePaired (arcs : ℕ) (steps : List Step) : Type 0 where
+  pub two_for_each : length steps ≡ arcs + arcs
+  pub number : (i : ℕ) → i < arcs → (step_at steps i).arc ≡ i
+  pub up : (i : ℕ) → i < arcs → 0 < (step_at steps i).up
+  pub level : (i : ℕ) → i < arcs → (step_at steps i).down ≡ 0
+  pub back : (i : ℕ) → i < arcs → IsBack (step_at steps i) (step_at steps (arcs + i))
 
 -- the step is open for the amounts: it goes along its arc, or the arc's amount is positive
 abbrev pub IsOpen : List ℕ → Step → Type 0

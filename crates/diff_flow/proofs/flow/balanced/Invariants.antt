@@ -1,6 +1,6 @@
-use Rattle.std.proofs.Common.{ℕ, ◌<◌}
-use Rattle.shape_graphs.specs.Flows.{BalancesAt}
+use Rattle.std.proofs.Common.{◌*◌}
+use Rattle.diff_flow.specs.inner.Surpluses.{BalanceBelow}
 use Rattle.diff_flow.proofs.flow.balanced.Given as goal
 
-abbrev pub invariant-loop-node : goal.invariant-loop-node
-invariant-loop-node l = (before : ℕ) → before < l.node → BalancesAt l.graph.arcs l.flow.amounts before
+abbrev pub invariant-loop-block : goal.invariant-loop-block
+invariant-loop-block l = BalanceBelow (l.block * 1024) l.graph.nodes l.graph.arcs l.flow.amounts

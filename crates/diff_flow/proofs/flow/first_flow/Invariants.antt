@@ -1,7 +1,7 @@
 use Rattle.std.proofs.Common.{◌≡◌, ℕ, ◌<◌, ◌≤◌, pos, length}
 use Rattle.shape_graphs.specs.Arcs.{arc_at}
 use Rattle.shape_graphs.specs.Flows.{amount_at}
-use Rattle.diff_flow.specs.declared.TheConstants.{MOST_AMOUNT}
+use Rattle.shape_graphs.specs.declared.graph.TheConstants.{MOST_AMOUNT}
 use Rattle.diff_flow.proofs.flow.first_flow.Given as goal
 
 abbrev pub invariant-loop-i : goal.invariant-loop-i

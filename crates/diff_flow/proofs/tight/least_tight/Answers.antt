@@ -1,4 +1,4 @@
-use Rattle.std.proofs.Common.{ℕ, List, map, pos, ap, ◌∙◌, arith, length}
+use Rattle.std.proofs.Common.{List, map, pos, ap, ◌∙◌, arith}
 use Rattle.shape_graphs.proofs.Laws.{no_cycle_in_solution}
 use Rattle.diff_flow.specs.Tight.{number_at}
 use Rattle.diff_flow.specs.inner.Numbers.{height}

@@ -1,0 +1,407 @@
+-- A turn of the search: the numbers of the reached nodes are raised, and one node more is reached.
+use Rattle.std.proofs.Common.{◌≡◌, ℕ, zero, suc, ◌+◌, ◌-◌, ◌*◌, ◌^◌, ◌<◌, ◌≤◌, ◌⊎◌, inl, inr, List, length, slice_index, refl, sym, ap, subst, ◌∙◌, arith, ltb, Bool, true, false, MatchBool, Option, Some, None}
+use Rattle.std.proofs.lemmas.Bool.{cases_lt, ltb-true, ltb-false}
+use Rattle.shape_graphs.specs.Flows.{amount_at}
+use Rattle.diff_flow.specs.declared.steps.Step.{Step}
+use Rattle.diff_flow.specs.declared.search.Reached.{Reached}
+use Rattle.diff_flow.specs.declared.search.Leaving.{Leaving}
+use Rattle.diff_flow.specs.inner.Steps.{step_at, AreStepsWithin, ArePaired, IsOpen, Meets, AreMet}
+use Rattle.diff_flow.specs.inner.Numbers.{height}
+use Rattle.diff_flow.specs.inner.Search.{entry_at, step_of, AreFit, IsPassable, IsTree, NoneLacks, IsPassed, ArePassed, IsLeaving, IsLeastLeaving, IsLesser, Grows, Raises, IsTrap}
+use Rattle.diff_flow.proofs.Gaps.{closed_most, uncovered}
+use Rattle.diff_flow.proofs.StepLemmas.{by_direction}
+
+-- along the arcs the numbers meet every step
+pub met_along : (arcs : ℕ) (steps : List Step) (amounts numbers : List ℕ) → ArePaired arcs steps → AreMet steps amounts (height numbers) →
+    (k : ℕ) → k < arcs → height numbers (step_at steps k).from + (step_at steps k).up ≤ height numbers (step_at steps k).to
+met_along arcs steps amounts numbers paired met k inside =
+    let ups = paired.up k inside in
+    let meets = met k (omega (arith, paired.two_for_each)) (omega arith) in
+    omega (arith, meets, paired.level k inside)
+
+-- a step against an arc with an amount can be passed
+back_open : (arcs : ℕ) (steps : List Step) (amounts numbers : List ℕ) → ArePaired arcs steps → (i : ℕ) → i < arcs → 0 < amount_at amounts i →
+    IsPassable amounts numbers (step_at steps (arcs + i))
+back_open arcs steps amounts numbers paired i inside some =
+    let back = paired.back i inside in
+    let number : (step_at steps (arcs + i)).arc ≡ i = back.arc ∙ paired.number i inside in
+    record {
+      along = λ ups. absurd (omega (arith, back.up));
+      against = λ _. subst (λ j. 0 < amount_at amounts j) (sym number) some;
+    }
+
+-- and is open
+back_is_open : (arcs : ℕ) (steps : List Step) (amounts : List ℕ) → ArePaired arcs steps → (i : ℕ) → i < arcs → 0 < amount_at amounts i →
+    IsOpen amounts (step_at steps (arcs + i))
+back_is_open arcs steps amounts paired i inside some =
+    let back = paired.back i inside in
+    let number : (step_at steps (arcs + i)).arc ≡ i = back.arc ∙ paired.number i inside in
+    let there : 0 < amount_at amounts (step_at steps (arcs + i)).arc = subst (λ j. 0 < amount_at amounts j) (sym number) some in
+    omega (arith, there)
+
+-- only arcs with an amount have an open step against them
+back_some : (arcs : ℕ) (steps : List Step) (amounts : List ℕ) → ArePaired arcs steps → (i : ℕ) → i < arcs →
+    IsOpen amounts (step_at steps (arcs + i)) → 0 < amount_at amounts i
+back_some arcs steps amounts paired i inside opens =
+    let back = paired.back i inside in
+    let number : (step_at steps (arcs + i)).arc ≡ i = back.arc ∙ paired.number i inside in
+    let there : 0 < amount_at amounts (step_at steps (arcs + i)).arc = omega (arith, opens, back.up) in
+    subst (λ j. 0 < amount_at amounts j) number there
+
+-- where the steps of all reached nodes are passed
+module _ (nodes arcs reach : ℕ) (steps : List Step) (amounts numbers want : List ℕ) (tree : List Reached) (places : List ℕ)
+    (all : AreStepsWithin nodes arcs reach steps) (paired : ArePaired arcs steps)
+    (is : IsTree nodes steps amounts numbers tree places)
+    (passed : ArePassed steps amounts numbers tree places (length tree)) where
+  pub passed_at : (k : ℕ) → k < length steps → 0 < slice_index places (step_at steps k).from → IsPassed steps amounts numbers places k
+  passed_at k inside reached =
+      let v_in = (all k inside).from in
+      let within = is.within (step_at steps k).from v_in in
+      passed (slice_index places (step_at steps k).from - 1) (omega arith) k inside (omega arith)
+      (sym (is.placed (step_at steps k).from v_in reached))
+
+  -- an arc with an amount begins at a reached node where it ends at one
+  pub begins_reached : (k : ℕ) → k < arcs → 0 < amount_at amounts k → 0 < slice_index places (step_at steps k).to →
+      0 < slice_index places (step_at steps k).from
+  begins_reached k inside some reached =
+      let back = paired.back k inside in
+      let from_reached : 0 < slice_index places (step_at steps (arcs + k)).from = subst (λ v. 0 < slice_index places v) (sym back.from) reached in
+      subst (λ v. 0 < slice_index places v) back.to
+      (passed_at (arcs + k) (omega (arith, paired.two_for_each)) from_reached (back_open arcs steps amounts numbers paired k inside some))
+
+  -- the reached nodes are a trap where no arc leaves them
+  pub trapped : NoneLacks want places → ((k slack : ℕ) → k < arcs → IsLeaving arcs steps numbers places k slack → ⊥) →
+      AreMet steps amounts (height numbers) →
+      IsTrap nodes arcs steps amounts want (entry_at tree 0).node (λ v. slice_index places v)
+  trapped none leaves met = record {
+    begins = omega (arith, is.at_place 0 is.some);
+    none_lacks = λ v v_in some. none v some;
+    none_leaves = λ k inside from. elim (cases_lt 0 (slice_index places (step_at steps k).to)) [
+      | inl some ↦ some
+      | inr out ↦ absurd (leaves k (height numbers (step_at steps k).to - (height numbers (step_at steps k).from + (step_at steps k).up)) inside
+          (record {
+            inside = inside;
+            from = from;
+            to = omega arith;
+            just = omega (arith, met_along arcs steps amounts numbers paired met k inside);
+          }))
+    ];
+    none_enters = begins_reached;
+  }
+
+-- the numbers of the reached nodes are raised by the least slack of the steps that leave them
+module _ (nodes arcs reach limit : ℕ) (steps : List Step) (amounts numbers numbers' want : List ℕ) (tree : List Reached) (places : List ℕ)
+    (all : AreStepsWithin nodes arcs reach steps) (paired : ArePaired arcs steps)
+    (fit : AreFit nodes limit steps amounts numbers want)
+    (is : IsTree nodes steps amounts numbers tree places)
+    (none : NoneLacks want places)
+    (passed : ArePassed steps amounts numbers tree places (length tree))
+    (step slack : ℕ) (leaving : IsLeaving arcs steps numbers places step slack)
+    (least : (k other : ℕ) → k < arcs → IsLeaving arcs steps numbers places k other → slack ≤ other)
+    (raises : Raises places numbers numbers' slack) where
+  raised_at : (v : ℕ) → v < nodes → 0 < slice_index places v → height numbers' v ≡ height numbers v + slack
+  raised_at v inside reached = raises.raised v (omega (arith, fit.one_for_each)) reached
+
+  kept_at : (v : ℕ) → v < nodes → slice_index places v ≡ 0 → height numbers' v ≡ height numbers v
+  kept_at v inside out = raises.kept v (omega (arith, fit.one_for_each)) out
+
+  risen_at : (v : ℕ) → v < nodes → height numbers v ≤ height numbers' v
+  risen_at v inside = elim (cases_lt 0 (slice_index places v)) [
+    | inl reached ↦ omega (arith, raised_at v inside reached)
+    | inr out ↦ omega (arith, kept_at v inside (omega arith))
+  ]
+
+  risen_most : (v : ℕ) → v < nodes → height numbers' v ≤ height numbers v + slack
+  risen_most v inside = elim (cases_lt 0 (slice_index places v)) [
+    | inl reached ↦ omega (arith, raised_at v inside reached)
+    | inr out ↦ omega (arith, kept_at v inside (omega arith))
+  ]
+
+  -- a step is met still, where it does not leave the reached nodes or the raise is at most its slack
+  meets_still : (k : ℕ) → k < length steps → Meets (height numbers) (step_at steps k) →
+      (0 < slice_index places (step_at steps k).from → slice_index places (step_at steps k).to ≡ 0 →
+      height numbers (step_at steps k).from + (step_at steps k).up + slack ≤ height numbers (step_at steps k).to + (step_at steps k).down) →
+      Meets (height numbers') (step_at steps k)
+  meets_still k inside meets leaves =
+      let fits = all k inside in
+      elim (cases_lt 0 (slice_index places (step_at steps k).from)) [
+        | inl from ↦ elim (cases_lt 0 (slice_index places (step_at steps k).to)) [
+          | inl to ↦ omega (arith, raised_at (step_at steps k).from fits.from from, raised_at (step_at steps k).to fits.to to, meets)
+          | inr out ↦
+              let apart : slice_index places (step_at steps k).to ≡ 0 = omega arith in
+              omega (arith, raised_at (step_at steps k).from fits.from from, kept_at (step_at steps k).to fits.to apart, leaves from apart)
+        ]
+        | inr out ↦
+            let apart : slice_index places (step_at steps k).from ≡ 0 = omega arith in
+            omega (arith, kept_at (step_at steps k).from fits.from apart, risen_at (step_at steps k).to fits.to, meets)
+      ]
+
+  pub met_raised : AreMet steps amounts (height numbers')
+  met_raised k inside opens =
+      by_direction (λ j. j < length steps → IsOpen amounts (step_at steps j) → Meets (height numbers') (step_at steps j)) arcs k
+      (omega (arith, paired.two_for_each)) (λ front. front_met k front) back_met inside opens
+    where
+      front_met : (k : ℕ) → k < arcs → k < length steps → IsOpen amounts (step_at steps k) → Meets (height numbers') (step_at steps k)
+      front_met k front inside opens =
+          let along = met_along arcs steps amounts numbers paired fit.met k front in
+          meets_still k inside (fit.met k inside opens)
+          (λ from to. let most = least k (height numbers (step_at steps k).to - (height numbers (step_at steps k).from + (step_at steps k).up)) front
+          (record { inside = front; from = from; to = to; just = omega arith }) in
+          omega arith)
+
+      back_met : (i : ℕ) → i < arcs → arcs + i < length steps → IsOpen amounts (step_at steps (arcs + i)) →
+          Meets (height numbers') (step_at steps (arcs + i))
+      back_met i front inside opens =
+          meets_still (arcs + i) inside (fit.met (arcs + i) inside opens)
+          (λ from to.
+          let some = back_some arcs steps amounts paired i front opens in
+          let reached = passed_at nodes arcs reach steps amounts numbers want tree places all paired is passed (arcs + i) inside from
+          (back_open arcs steps amounts numbers paired i front some) in
+          absurd (omega (arith, reached, to)))
+
+  -- what was passed can be passed still
+  passable_still : (k : ℕ) → k < length steps → 0 < slice_index places (step_at steps k).from → 0 < slice_index places (step_at steps k).to →
+      IsPassable amounts numbers (step_at steps k) → IsPassable amounts numbers' (step_at steps k)
+  passable_still k inside from to can =
+      let fits = all k inside in
+      record {
+        along = λ ups. omega (arith, can.along ups, raised_at (step_at steps k).from fits.from from, raised_at (step_at steps k).to fits.to to);
+        against = can.against;
+      }
+
+  entry_reached : (j : ℕ) → j < length tree → 0 < slice_index places (entry_at tree j).node
+  entry_reached j inside = omega (arith, is.at_place j inside)
+
+  pub tree_raised : IsTree nodes steps amounts numbers' tree places
+  tree_raised = record {
+    some = is.some;
+    inside = is.inside;
+    rooms = is.rooms;
+    most = is.most;
+    each = λ j after inside.
+        let was = is.each j after inside in
+        record {
+          earlier = was.earlier;
+          inside = was.inside;
+          from = was.from;
+          to = was.to;
+          passable = passable_still (entry_at tree j).step was.inside
+              (subst (λ v. 0 < slice_index places v) (sym was.from) (entry_reached (entry_at tree j).parent (omega (arith, was.earlier))))
+              (subst (λ v. 0 < slice_index places v) (sym was.to) (entry_reached j inside))
+              was.passable;
+          room = was.room;
+        };
+    one_for_each = is.one_for_each;
+    at_place = is.at_place;
+    within = is.within;
+    placed = is.placed;
+    count = is.count;
+  }
+
+  -- the step with the least slack is tight
+  pub leaving_passable : IsPassable amounts numbers' (step_at steps step)
+  leaving_passable =
+      let fits = all step (omega (arith, leaving.inside, paired.two_for_each)) in
+      record {
+        along = λ _. omega (arith, raised_at (step_at steps step).from fits.from leaving.from, kept_at (step_at steps step).to fits.to leaving.to, leaving.just);
+        against = λ level. absurd (omega (arith, paired.up step leaving.inside));
+      }
+
+  lacking_low : (v : ℕ) → v < nodes → 0 < slice_index want v → height numbers' v ≤ limit
+  lacking_low v inside lacks = elim (cases_lt 0 (slice_index places v)) [
+    | inl reached ↦ absurd (omega (arith, none v reached))
+    | inr out ↦ omega (arith, kept_at v inside (omega arith), fit.lacking v inside lacks)
+  ]
+
+  -- a passable step climbs by at most the reach
+  step_near : (k : ℕ) → k < length steps → IsPassable amounts numbers' (step_at steps k) →
+      height numbers' (step_at steps k).to ≤ height numbers' (step_at steps k).from + reach
+  step_near k inside can =
+      by_direction (λ j. j < length steps → IsPassable amounts numbers' (step_at steps j) →
+      height numbers' (step_at steps j).to ≤ height numbers' (step_at steps j).from + reach) arcs k
+      (omega (arith, paired.two_for_each))
+      (λ front inside can. omega (arith, can.along (paired.up k front), (all k inside).up))
+      (λ i front _ _.
+      let back = paired.back i front in
+      let along = met_along arcs steps amounts numbers' paired met_raised i front in
+      let end : height numbers' (step_at steps (arcs + i)).to ≡ height numbers' (step_at steps i).from = ap (height numbers') back.to in
+      let start : height numbers' (step_at steps (arcs + i)).from ≡ height numbers' (step_at steps i).to = ap (height numbers') back.from in
+      omega (arith, along, end, start))
+      inside can
+
+  -- above a height from the limit on that no node covers no reached node is
+  module _ (low : ℕ) (low_most : limit ≤ low) (gap : (u : ℕ) → u < nodes → (low < height numbers' u) ⊎ (height numbers' u + reach ≤ low)) where
+    above_near : (u v : ℕ) → u < nodes → low < height numbers' v → height numbers' v ≤ height numbers' u + reach → low < height numbers' u
+    above_near u v inside above near = elim (gap u inside) [
+      | inl there ↦ there
+      | inr under ↦ absurd (omega (arith, above, near, under))
+    ]
+
+    above_first : (n j : ℕ) → j < n → j < length tree → low < height numbers' (entry_at tree j).node → low < height numbers' (entry_at tree 0).node
+    above_first zero j less inside above = absurd (omega arith)
+    above_first (suc n) j less inside above = elim (cases_lt 0 j) [
+      | inl after ↦
+          let was = tree_raised.each j after inside in
+          let parent_in : (entry_at tree j).parent < length tree = omega (arith, was.earlier) in
+          let near = step_near (entry_at tree j).step was.inside was.passable in
+          let end : height numbers' (step_of steps tree j).to ≡ height numbers' (entry_at tree j).node = ap (height numbers') was.to in
+          let start : height numbers' (step_of steps tree j).from ≡ height numbers' (entry_at tree (entry_at tree j).parent).node =
+          ap (height numbers') was.from in
+          above_first n (entry_at tree j).parent (omega (arith, was.earlier)) parent_in
+          (above_near (entry_at tree (entry_at tree j).parent).node (entry_at tree j).node (is.inside _ parent_in) above
+          (omega (arith, near, end, start)))
+      | inr first ↦
+          let here : j ≡ 0 = omega arith in
+          subst (λ i. low < height numbers' (entry_at tree i).node) here above
+    ]
+
+    above_trap : (v : ℕ) → v < nodes → 0 < slice_index places v → low < height numbers' v →
+        IsTrap nodes arcs steps amounts want (entry_at tree 0).node (λ u. height numbers' u - low)
+    above_trap v inside reached above = record {
+      begins =
+          let place_in : slice_index places v - 1 < length tree = omega (arith, is.within v inside) in
+          let up = above_first (suc (slice_index places v - 1)) (slice_index places v - 1) (omega arith) place_in
+          (subst (λ u. low < height numbers' u) (sym (is.placed v inside reached)) above) in
+          omega (arith, up);
+      none_lacks = λ u u_in mark. elim (cases_lt 0 (slice_index want u)) [
+        | inl lacks ↦ absurd (omega (arith, lacking_low u u_in lacks, mark))
+        | inr filled ↦ omega arith
+      ];
+      none_leaves = λ k front mark. omega (arith, met_along arcs steps amounts numbers' paired met_raised k front, mark);
+      none_enters = λ k front some mark.
+          let inside' : arcs + k < length steps = omega (arith, paired.two_for_each) in
+          let back = paired.back k front in
+          let fits = all k (omega (arith, paired.two_for_each)) in
+          let meets = met_raised (arcs + k) inside' (back_is_open arcs steps amounts paired k front some) in
+          let end : height numbers' (step_at steps (arcs + k)).to ≡ height numbers' (step_at steps k).from = ap (height numbers') back.to in
+          let start : height numbers' (step_at steps (arcs + k)).from ≡ height numbers' (step_at steps k).to = ap (height numbers') back.from in
+          let up = above_near (step_at steps k).from (step_at steps k).to fits.from (omega (arith, mark))
+          (omega (arith, meets, end, start, back.up, back.down, fits.up)) in
+          omega (arith, up);
+    }
+
+  low_raised : limit ≡ (nodes - 1) * reach → ((marks : ℕ → ℕ) → IsTrap nodes arcs steps amounts want (entry_at tree 0).node marks → ⊥) →
+      (v : ℕ) → v < nodes → height numbers' v ≤ limit + limit
+  low_raised limited no_trap v inside = elim (cases_lt 0 (slice_index places v)) [
+    | inl reached ↦ elim (cases_lt (limit + limit) (height numbers' v)) [
+      | inl high ↦
+          let covered = closed_most reach (height numbers') nodes v inside in
+          let found = uncovered reach (height numbers') nodes limit (height numbers' v) (omega (arith, covered, high, limited)) in
+          absurd (no_trap _ (above_trap found.0 found.1 found.3 v inside reached found.2))
+      | inr within ↦ within
+    ]
+    | inr out ↦ omega (arith, kept_at v inside (omega arith), fit.low v inside)
+  ]
+
+  pub fit_raised : limit ≡ (nodes - 1) * reach → ((marks : ℕ → ℕ) → IsTrap nodes arcs steps amounts want (entry_at tree 0).node marks → ⊥) →
+      AreFit nodes limit steps amounts numbers' want
+  fit_raised limited no_trap = record {
+    one_for_each = raises.one_for_each ∙ fit.one_for_each;
+    met = met_raised;
+    low = low_raised limited no_trap;
+    lacking = lacking_low;
+  }
+
+-- the step just read leaves the reached nodes
+pub leaves_at : (arcs : ℕ) (steps : List Step) (numbers places : List ℕ) (k : ℕ) (step : Step) → step ≡ step_at steps k → k < arcs →
+    (slice_index places step.from ≡ 0 → ⊥) → slice_index places step.to ≤ 0 →
+    height numbers (step_at steps k).from + (step_at steps k).up ≤ height numbers (step_at steps k).to →
+    IsLeaving arcs steps numbers places k (height numbers step.to - height numbers step.from - step.up)
+leaves_at arcs steps numbers places k step is inside from to met =
+    let from' : slice_index places (step_at steps k).from ≡ 0 → ⊥ = subst (λ (s : Step). slice_index places s.from ≡ 0 → ⊥) is from in
+    let to' : slice_index places (step_at steps k).to ≤ 0 = subst (λ (s : Step). slice_index places s.to ≤ 0) is to in
+    subst (λ (s : Step). IsLeaving arcs steps numbers places k (height numbers s.to - height numbers s.from - s.up)) (sym is)
+    (record { inside = inside; from = omega (arith, from'); to = omega arith; just = omega (arith, met) })
+
+-- a step that does not leave them changes nothing
+pub least_same : (arcs : ℕ) (steps : List Step) (numbers places : List ℕ) (k : ℕ) (least : Option Leaving) →
+    ((slack : ℕ) → IsLeaving arcs steps numbers places k slack → ⊥) → IsLeastLeaving k arcs steps numbers places least →
+    IsLeastLeaving (k + 1) arcs steps numbers places least
+least_same arcs steps numbers places k None stays was = λ j slack inside leaves.
+    elim (cases_lt j k) [
+      | inl front ↦ was j slack front leaves
+      | inr back ↦
+          let here : j ≡ k = omega arith in
+          stays slack (subst (λ i. IsLeaving arcs steps numbers places i slack) here leaves)
+    ]
+least_same arcs steps numbers places k (Some least) stays was = (
+  was.0,
+  λ j slack inside leaves. elim (cases_lt j k) [
+    | inl front ↦ was.1 j slack front leaves
+    | inr back ↦
+        let here : j ≡ k = omega arith in
+        absurd (stays slack (subst (λ i. IsLeaving arcs steps numbers places i slack) here leaves))
+  ],
+)
+
+-- a step has one slack
+one_slack : (arcs : ℕ) (steps : List Step) (numbers places : List ℕ) (j k slack other : ℕ) → j ≡ k →
+    IsLeaving arcs steps numbers places k slack → IsLeaving arcs steps numbers places j other → slack ≡ other
+one_slack arcs steps numbers places j k slack other here leaves leaves' =
+    let there = subst (λ i. IsLeaving arcs steps numbers places i other) here leaves' in
+    omega (arith, leaves.just, there.just)
+
+-- the first step that leaves them
+pub least_first : (arcs : ℕ) (steps : List Step) (numbers places : List ℕ) (k slack : ℕ) →
+    IsLeaving arcs steps numbers places k slack → IsLeastLeaving k arcs steps numbers places None →
+    IsLeastLeaving (k + 1) arcs steps numbers places (Some (record { step = k; slack = slack }))
+least_first arcs steps numbers places k slack leaves none = (
+  leaves,
+  λ j other inside leaves'. elim (cases_lt j k) [
+    | inl front ↦ absurd (none j other front leaves')
+    | inr back ↦ omega (arith, one_slack arcs steps numbers places j k slack other (omega arith) leaves leaves')
+  ],
+)
+
+-- the lesser of two
+pub least_lesser : (arcs : ℕ) (steps : List Step) (numbers places : List ℕ) (k slack : ℕ) (least lesser : Leaving) →
+    IsLeaving arcs steps numbers places k slack → IsLesser least k slack lesser → IsLeastLeaving k arcs steps numbers places (Some least) →
+    IsLeastLeaving (k + 1) arcs steps numbers places (Some lesser)
+least_lesser arcs steps numbers places k slack least lesser leaves is was = (
+  elim is.one [
+    | inl same ↦ subst (λ (l : Leaving). IsLeaving arcs steps numbers places l.step l.slack) (sym same) was.0
+    | inr here ↦ subst (λ i. IsLeaving arcs steps numbers places i lesser.slack) (sym here.0)
+        (subst (λ x. IsLeaving arcs steps numbers places k x) (sym here.1) leaves)
+  ],
+  λ j other inside leaves'. elim (cases_lt j k) [
+    | inl front ↦ omega (arith, was.1 j other front leaves', is.first)
+    | inr back ↦ omega (arith, one_slack arcs steps numbers places j k slack other (omega arith) leaves leaves', is.second)
+  ],
+)
+
+by_test : (b : Bool) (P Q : Type 0) → (b ≡ true → P) → (b ≡ false → Q) → MatchBool b P Q
+by_test true P Q this that = this refl
+by_test false P Q this that = that refl
+
+-- slacks are low
+pub slack_low : (nodes arcs reach : ℕ) (steps : List Step) (amounts numbers want places : List ℕ) (k slack : ℕ) → (nodes - 1) * reach ≤ 2 ^ 42 →
+    AreStepsWithin nodes arcs reach steps → k < length steps → AreFit nodes ((nodes - 1) * reach) steps amounts numbers want →
+    IsLeaving arcs steps numbers places k slack → slack ≤ 2 ^ 60
+slack_low nodes arcs reach steps amounts numbers want places k slack short all inside fit leaves =
+    let end = fit.low (step_at steps k).to (all k inside).to in
+    omega (arith, short, end, leaves.just)
+
+-- fit numbers are low
+pub fit_low : (nodes reach : ℕ) (steps : List Step) (amounts numbers want : List ℕ) → (nodes - 1) * reach ≤ 2 ^ 42 →
+    AreFit nodes ((nodes - 1) * reach) steps amounts numbers want → (v : ℕ) → v < nodes → height numbers v ≤ 2 ^ 60
+fit_low nodes reach steps amounts numbers want short fit v inside = omega (arith, short, fit.low v inside)
+
+-- a trap around the first node of a grown search is one around that of the search
+pub trap_grown : (nodes arcs : ℕ) (steps : List Step) (amounts want : List ℕ) (tree tree' : List Reached) (places places' : List ℕ) (marks : ℕ → ℕ) →
+    0 < length tree → Grows tree places tree' places' → IsTrap nodes arcs steps amounts want (entry_at tree' 0).node marks →
+    IsTrap nodes arcs steps amounts want (entry_at tree 0).node marks
+trap_grown nodes arcs steps amounts want tree tree' places places' marks some grows trap =
+    subst (λ (first : Reached). IsTrap nodes arcs steps amounts want first.node marks) (grows.kept 0 some) trap
+
+-- whether the start lacks
+pub planted_search : (want : List ℕ) (tree : List Reached) (places : List ℕ) (start : ℕ) → length tree ≡ 1 → (entry_at tree 0).node ≡ start →
+    ((v : ℕ) → 0 < slice_index places v → v ≡ start) →
+    MatchBool (ltb 0 (slice_index want start)) (0 < slice_index want (entry_at tree (length tree - 1)).node) (NoneLacks want places)
+planted_search want tree places start one first only =
+    by_test _ _ _
+    (λ is_true.
+    let last : length tree - 1 ≡ 0 = omega arith in
+    subst (λ j. 0 < slice_index want (entry_at tree j).node) (sym last)
+    (subst (λ v. 0 < slice_index want v) (sym first) (ltb-true 0 (slice_index want start) is_true)))
+    (λ is_false v reached. subst (λ w. slice_index want w ≡ 0) (sym (only v reached))
+    (omega (arith, ltb-false 0 (slice_index want start) is_false)))

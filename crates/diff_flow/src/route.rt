@@ -1,0 +1,295 @@
+//! Makes a flow best: amounts on arcs that are not tight are dropped, and what is then left over at
+//! some nodes is sent along tight steps to the nodes that lack.
+
+ghost use Rattle.std.specs.Prelude.{◌≡◌, ◌≤◌, ◌<◌, ◌+◌, ◌-◌, ◌*◌, ◌^◌, ℕ};
+ghost use Rattle.std.specs.Prelude.{length, slice_index, IfOk, List};
+ghost use Rattle.shape_graphs.specs.Flows.{amount_at};
+ghost use Rattle.diff_flow.specs.inner.Steps.{AreMet, step_at};
+ghost use Rattle.diff_flow.specs.inner.Numbers.{height};
+ghost use Rattle.diff_flow.specs.inner.Search.{entry_at, IsTree};
+ghost use Rattle.diff_flow.specs.inner.Routing.{
+  AreDropped,
+  AreGiven,
+  IsKept,
+  IsMoved,
+  IsRouting,
+  IsSent,
+  IsSpread,
+  net_by,
+};
+
+use crate::search::{Tree, find};
+use crate::steps::{Step, Steps};
+use compact_types::NoMemory;
+use std::alloc::Global;
+
+/// Drops the amounts that are not tight, and sends them where they lack along tight steps; the
+/// numbers are raised until all have arrived. Answers the new amounts.
+pub(crate) fn route(
+    alloc: Global,
+    steps: &Steps,
+    given: &[u64],
+    numbers: &mut [u64],
+) -> Result<Vec<u128>, NoMemory>
+    requires given { length given.now ≡ steps.now.arcs }
+    requires low { (i : ℕ) → i < steps.now.arcs → amount_at given.now i ≤ 2 ^ 50 }
+    requires numbers { length numbers.old ≡ steps.now.nodes }
+    requires limit { (v : ℕ) → v < steps.now.nodes →
+        height numbers.old v ≤ (steps.now.nodes - 1) * steps.now.reach }
+    requires met { (k : ℕ) → k < steps.now.arcs →
+        height numbers.old (step_at steps.now.list.items k).from
+        + (step_at steps.now.list.items k).up
+        ≤ height numbers.old (step_at steps.now.list.items k).to }
+    ensures len { IfOk result (λ amounts. length amounts.items ≡ steps.now.arcs) }
+    ensures net { IfOk result (λ amounts. (v : ℕ) → v < steps.now.nodes →
+        net_by steps.now.list.items steps.now.arcs amounts.items v
+        ≡ net_by steps.now.list.items steps.now.arcs given.now v) }
+    ensures met { IfOk result (λ amounts.
+        AreMet steps.now.list.items amounts.items (height numbers.new)) }
+    ensures low { IfOk result (λ _.
+        (v : ℕ) → v < steps.now.nodes → height numbers.new v ≤ 2 ^ 60) }
+{
+    let mut amounts = widened(alloc, given)?;
+    let mut over = vec![in alloc; 0u128; steps.nodes as usize]?;
+    let mut want = vec![in alloc; 0u128; steps.nodes as usize]?;
+    reroute(
+        alloc,
+        steps,
+        amounts.as_mut_slice(),
+        numbers,
+        over.as_mut_slice(),
+        want.as_mut_slice(),
+    )?;
+    Ok(amounts)
+}
+
+/// Drops the amounts on arcs that are not tight, and sends what is then in excess to where they
+/// lack.
+fn reroute(
+    alloc: Global,
+    steps: &Steps,
+    amounts: &mut [u128],
+    numbers: &mut [u64],
+    over: &mut [u128],
+    want: &mut [u128],
+) -> Result<(), NoMemory>
+    requires numbers { length numbers.old ≡ steps.now.nodes }
+    requires limit { (v : ℕ) → v < steps.now.nodes →
+        height numbers.old v ≤ (steps.now.nodes - 1) * steps.now.reach }
+    requires met { (k : ℕ) → k < steps.now.arcs →
+        height numbers.old (step_at steps.now.list.items k).from
+        + (step_at steps.now.list.items k).up
+        ≤ height numbers.old (step_at steps.now.list.items k).to }
+    requires dropped { AreDropped steps.now.nodes steps.now.arcs 0 steps.now.list.items numbers.old
+        amounts.old over.old want.old }
+    requires given { (given : List ℕ) × AreGiven steps.now.arcs given
+        × IsSpread steps.now.nodes steps.now.arcs steps.now.list.items given
+        amounts.old over.old want.old }
+    ensures len { IfOk result (λ _. length amounts.new ≡ steps.now.arcs) }
+    ensures net { IfOk result (λ _. (given : List ℕ) →
+        IsSpread steps.now.nodes steps.now.arcs steps.now.list.items given
+        amounts.old over.old want.old → (v : ℕ) → v < steps.now.nodes →
+        net_by steps.now.list.items steps.now.arcs amounts.new v
+        ≡ net_by steps.now.list.items steps.now.arcs given v) }
+    ensures met { IfOk result (λ _.
+        AreMet steps.now.list.items amounts.new (height numbers.new)) }
+    ensures low { IfOk result (λ _.
+        (v : ℕ) → v < steps.now.nodes → height numbers.new v ≤ 2 ^ 60) }
+{
+    drop_all(steps, numbers, amounts, over, want);
+    send_all(alloc, steps, amounts, numbers, over, want)?;
+    Ok(())
+}
+
+/// The same amounts with room for what is sent.
+pub(crate) fn widened(alloc: Global, given: &[u64]) -> Result<Vec<u128>, NoMemory>
+    ensures { IfOk result (λ amounts. amounts.items ≡ given.now) }
+{
+    let mut amounts = Vec::with_capacity(alloc, given.len())?;
+    for amount in given {
+        amounts.push(*amount as u128)?;
+    }
+    Ok(amounts)
+}
+
+/// Drops the amounts on all arcs that are not tight.
+fn drop_all(
+    steps: &Steps,
+    numbers: &[u64],
+    amounts: &mut [u128],
+    over: &mut [u128],
+    want: &mut [u128],
+)
+    requires numbers { length numbers.now ≡ steps.now.nodes }
+    requires low { (v : ℕ) → v < steps.now.nodes → height numbers.now v ≤ 2 ^ 60 }
+    requires dropped { AreDropped steps.now.nodes steps.now.arcs 0 steps.now.list.items numbers.now
+        amounts.old over.old want.old }
+    ensures dropped { AreDropped steps.now.nodes steps.now.arcs steps.now.arcs
+        steps.now.list.items numbers.now amounts.new over.new want.new }
+    ensures kept { IsKept steps.now.nodes steps.now.arcs steps.now.list.items
+        amounts.old over.old want.old amounts.new over.new want.new }
+{
+    for i in 0..steps.arcs {
+        drop_slack(i, steps, numbers, amounts, over, want);
+    }
+}
+
+/// Drops the amount on arc `i`, where it is not tight: the node where it begins has it in excess,
+/// the node where it ends lacks it.
+fn drop_slack(
+    i: usize,
+    steps: &Steps,
+    numbers: &[u64],
+    amounts: &mut [u128],
+    over: &mut [u128],
+    want: &mut [u128],
+)
+    requires inside { i < steps.now.arcs }
+    requires numbers { length numbers.now ≡ steps.now.nodes }
+    requires low { (v : ℕ) → v < steps.now.nodes → height numbers.now v ≤ 2 ^ 60 }
+    requires dropped { AreDropped steps.now.nodes steps.now.arcs i steps.now.list.items numbers.now
+        amounts.old over.old want.old }
+    ensures dropped { AreDropped steps.now.nodes steps.now.arcs (i + 1) steps.now.list.items
+        numbers.now amounts.new over.new want.new }
+    ensures kept { IsKept steps.now.nodes steps.now.arcs steps.now.list.items
+        amounts.old over.old want.old amounts.new over.new want.new }
+    ensures tight { height numbers.now (step_at steps.now.list.items i).to
+        ≡ height numbers.now (step_at steps.now.list.items i).from
+        + (step_at steps.now.list.items i).up → amounts.new ≡ amounts.old }
+{
+    let step = steps.at(i);
+    if numbers[step.to as usize] != numbers[step.from as usize] + step.up as u64 {
+        let amount = amounts[i];
+        amounts[i] = 0;
+        over[step.from as usize] += amount;
+        want[step.to as usize] += amount;
+    }
+}
+
+/// Sends the excess of all nodes to where they lack.
+fn send_all(
+    alloc: Global,
+    steps: &Steps,
+    amounts: &mut [u128],
+    numbers: &mut [u64],
+    over: &mut [u128],
+    want: &mut [u128],
+) -> Result<(), NoMemory>
+    requires routing { IsRouting steps.now.nodes steps.now.arcs
+        ((steps.now.nodes - 1) * steps.now.reach) steps.now.list.items
+        amounts.old numbers.old over.old want.old }
+    ensures routing { IfOk result (λ _. IsRouting steps.now.nodes steps.now.arcs
+        ((steps.now.nodes - 1) * steps.now.reach) steps.now.list.items
+        amounts.new numbers.new over.new want.new) }
+    ensures kept { IfOk result (λ _. IsKept steps.now.nodes steps.now.arcs steps.now.list.items
+        amounts.old over.old want.old amounts.new over.new want.new) }
+    ensures none { IfOk result (λ _. (v : ℕ) → v < steps.now.nodes → slice_index over.new v ≡ 0) }
+{
+    for node in 0..steps.nodes {
+        send_from(node, alloc, steps, amounts, numbers, over, want)?;
+    }
+    Ok(())
+}
+
+/// Sends the excess of the node to where they lack.
+fn send_from(
+    node: u32,
+    alloc: Global,
+    steps: &Steps,
+    amounts: &mut [u128],
+    numbers: &mut [u64],
+    over: &mut [u128],
+    want: &mut [u128],
+) -> Result<(), NoMemory>
+    requires node { node < steps.now.nodes }
+    requires routing { IsRouting steps.now.nodes steps.now.arcs
+        ((steps.now.nodes - 1) * steps.now.reach) steps.now.list.items
+        amounts.old numbers.old over.old want.old }
+    ensures routing { IfOk result (λ _. IsRouting steps.now.nodes steps.now.arcs
+        ((steps.now.nodes - 1) * steps.now.reach) steps.now.list.items
+        amounts.new numbers.new over.new want.new) }
+    ensures kept { IfOk result (λ _. IsKept steps.now.nodes steps.now.arcs steps.now.list.items
+        amounts.old over.old want.old amounts.new over.new want.new) }
+    ensures none { IfOk result (λ _. slice_index over.new node ≡ 0) }
+    ensures less { IfOk result (λ _. (v : ℕ) → slice_index over.new v ≤ slice_index over.old v) }
+{
+    while over[node as usize] > 0 {
+        send_once(node, alloc, steps, amounts, numbers, over, want)?;
+    }
+    Ok(())
+}
+
+/// Sends some of the excess of the node along one way.
+fn send_once(
+    node: u32,
+    alloc: Global,
+    steps: &Steps,
+    amounts: &mut [u128],
+    numbers: &mut [u64],
+    over: &mut [u128],
+    want: &mut [u128],
+) -> Result<(), NoMemory>
+    requires node { node < steps.now.nodes }
+    requires some { 0 < slice_index over.old node }
+    requires routing { IsRouting steps.now.nodes steps.now.arcs
+        ((steps.now.nodes - 1) * steps.now.reach) steps.now.list.items
+        amounts.old numbers.old over.old want.old }
+    ensures routing { IfOk result (λ _. IsRouting steps.now.nodes steps.now.arcs
+        ((steps.now.nodes - 1) * steps.now.reach) steps.now.list.items
+        amounts.new numbers.new over.new want.new) }
+    ensures kept { IfOk result (λ _. IsKept steps.now.nodes steps.now.arcs steps.now.list.items
+        amounts.old over.old want.old amounts.new over.new want.new) }
+    ensures fewer { IfOk result (λ _. slice_index over.new node < slice_index over.old node) }
+    ensures less { IfOk result (λ _. (v : ℕ) → slice_index over.new v ≤ slice_index over.old v) }
+{
+    let tree = find(
+        alloc,
+        node,
+        over[node as usize],
+        steps,
+        amounts,
+        numbers,
+        want,
+    )?;
+    let last = tree.entries[tree.entries.len() - 1];
+    let amount = last.room.min(want[last.node as usize]);
+    send(steps, numbers, &tree, amount, amounts);
+    over[node as usize] -= amount;
+    want[last.node as usize] -= amount;
+    Ok(())
+}
+
+/// Sends the amount along the way to the last entry of the tree.
+pub(crate) fn send(steps: &Steps, numbers: &[u64], tree: &Tree, amount: u128, amounts: &mut [u128])
+    requires amounts { length amounts.old ≡ steps.now.arcs }
+    requires low { (i : ℕ) → i < steps.now.arcs → amount_at amounts.old i + amount < 2 ^ 128 }
+    requires tree { IsTree steps.now.nodes steps.now.list.items amounts.old numbers.now
+        tree.now.entries.items tree.now.places.items }
+    requires room { amount ≤ (entry_at tree.now.entries.items
+        (length tree.now.entries.items - 1)).room }
+    ensures { IsMoved steps.now.nodes steps.now.arcs steps.now.list.items amount
+        (entry_at tree.now.entries.items 0).node
+        (entry_at tree.now.entries.items (length tree.now.entries.items - 1)).node
+        numbers.now amounts.old amounts.new }
+{
+    let mut at = tree.entries.len() - 1;
+    while at > 0 {
+        let entry = tree.entries[at];
+        pass(steps.at(entry.step as usize), amount, amounts);
+        at = entry.parent as usize;
+    }
+}
+
+/// Sends the amount over the step.
+fn pass(step: Step, amount: u128, amounts: &mut [u128])
+    requires arc { step.arc < length amounts.old }
+    requires along { 0 < step.up → amount_at amounts.old step.arc + amount < 2 ^ 128 }
+    requires against { step.up ≡ 0 → amount ≤ amount_at amounts.old step.arc }
+    ensures { IsSent step amount amounts.old amounts.new }
+{
+    if step.up > 0 {
+        amounts[step.arc as usize] += amount;
+    } else {
+        amounts[step.arc as usize] -= amount;
+    }
+}
