@@ -1,0 +1,12 @@
+pub mod Totals
+pub mod LengthLemmas
+pub mod PieceLemmas
+pub mod Standings
+pub mod Ceilings
+pub mod TightKeys
+pub mod Minima
+pub mod LeastKeys
+pub mod LowKeys
+pub mod RaisingLemmas
+pub mod StartLemmas
+pub mod Laws

@@ -1,0 +1,13 @@
+-- Places by numbers on the nodes of the two graphs.
+use Rattle.std.specs.Prelude.{◌≡◌, ℕ, ◌<◌, ℤ, length}
+use Rattle.compact_types.specs.declared.places.Axis.{Axis}
+use Rattle.compact_types.specs.declared.places.Places.{Places}
+use Rattle.compact_types.specs.declared.plan.Shape.{Shape}
+use Rattle.compact_types.specs.Lookups.{along, place}
+use Rattle.bars.specs.Segments.{node_of}
+
+-- each vertex stands where the numbers of its column and its row say
+pub record StandAt (shape : Shape) (numbers : Axis → ℕ → ℤ) (places : Places) : Type 0 where
+  pub places_fit : length places.xy ≡ shape.plan.vertices
+  pub each : (axis : Axis) (v : ℕ) → v < shape.plan.vertices →
+      along axis (place places.xy v) ≡ numbers axis (node_of axis shape v)

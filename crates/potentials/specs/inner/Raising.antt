@@ -1,0 +1,45 @@
+-- What is known of the graphs and flows while a solver raises bounds.
+use Rattle.std.specs.Prelude.{◌≡◌, ℕ, ◌≤◌, pos, ℤ, ◌+ℤ◌, List, [], ◌∷◌, ◌++◌, length}
+use Rattle.compact_types.specs.declared.limits.TheConstants.{MOST_VERTICES}
+use Rattle.compact_types.specs.declared.places.Axis.{Axis}
+use Rattle.compact_types.specs.declared.places.Axis.TheVariants.{X, Y}
+use Rattle.compact_types.specs.declared.search.Flow.{Flow}
+use Rattle.compact_types.specs.declared.search.Flows.{Flows}
+use Rattle.shape_graphs.specs.declared.graph.Arc.{Arc}
+use Rattle.shape_graphs.specs.declared.graph.DiffGraph.{DiffGraph}
+use Rattle.shape_graphs.specs.Flows.{Balances, bound_of, IsFlowOn}
+use Rattle.shape_graphs.specs.Paths.{HasCycle}
+use Rattle.diff_flow.specs.Tight.{AreLeastTight, number_at}
+
+-- the graph has at most as many nodes as a drawing has vertices, and no cycle
+pub record IsSolvable (graph : DiffGraph) : Type 0 where
+  pub few_nodes : graph.nodes ≤ MOST_VERTICES
+  pub no_cycle : HasCycle graph.arcs → ⊥
+
+-- the flow is one on the graph, and balances
+pub record BalancesOn (graph : DiffGraph) (flow : Flow) : Type 0 where
+  pub amounts : IsFlowOn graph.arcs flow.amounts
+  pub balances : Balances graph.nodes graph.arcs flow.amounts
+
+-- the flow is one that a flow on the graph begins with: it balances on all of the graph, or on all
+-- but its last arc, which does not pull
+pub data IsBegun (graph : DiffGraph) (flow : Flow) : Type 0 where
+  on_all : BalancesOn graph flow → IsBegun graph flow
+  on_all_but_last : (arcs : List Arc) (last : Arc) → graph.arcs ≡ arcs ++ last ∷ [] →
+      last.pull ≡ pos 0 → IsFlowOn arcs flow.amounts →
+      Balances graph.nodes arcs flow.amounts → IsBegun graph flow
+
+-- one number for each node of the graph, the least that are tight for the flow
+pub record AreLeastNumbers (graph : DiffGraph) (flow : Flow) (numbers : List ℤ) : Type 0 where
+  pub one_for_each : length numbers ≡ graph.nodes
+  pub least : AreLeastTight graph.nodes graph.arcs flow.amounts (number_at numbers)
+
+-- of two lists of numbers the one along the axis
+abbrev pub numbers_along : List ℤ → List ℤ → Axis → ℕ → ℤ
+numbers_along across up X node = number_at across node
+numbers_along across up Y node = number_at up node
+
+-- the bounds of two flows on two graphs together
+abbrev pub both_bounds_of : DiffGraph → DiffGraph → Flows → ℤ
+both_bounds_of columns rows flows =
+    bound_of columns.arcs flows.x.amounts +ℤ bound_of rows.arcs flows.y.amounts

@@ -1,0 +1,19 @@
+//! The total length as a measure: its solver, and the least places that are tight for two flows.
+//!
+//! The layer above relies on the laws of `Measure` for the total length, and on `flow_key`, by
+//! which a checker sees that two flows prove a verdict. `docs/FLOWS.md` has the method and its
+//! sources.
+#![tactic(auto)]
+
+mod keys;
+mod law;
+mod raising;
+mod standing;
+mod total_length;
+
+pub use keys::{FlowKey, flow_key};
+pub use law::{flows_bound_worths, least_key_exists, least_keys_are_low, lengths_by_graphs};
+pub use total_length::TotalLength;
+
+#[cfg(test)]
+mod tests;
