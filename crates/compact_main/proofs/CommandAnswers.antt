@@ -8,10 +8,11 @@ use Rattle.compact_main.specs.declared.command.Command.TheVariants as commands
 use Rattle.compact_main.specs.declared.drawing.Drawing.{Drawing}
 use Rattle.compact_main.specs.declared.status.Why.{Why}
 use Rattle.compact_main.specs.declared.status.Why.TheVariants.{TooLong, Gml, Draw, Shape, NotYet}
-use Rattle.compact_main.specs.Drawings.{HoldsDrawing, FirstTextFault, IsRow, IsAny}
+use Rattle.compact_main.specs.Drawings.{HoldsDrawing, FirstTextFault, IsSettled, IsAny}
 use Rattle.compact_main.specs.Intakes.{limit_of}
 use Rattle.compact_main.specs.Outputs.{IsInput, HoldsBuilt, FirstReason, Output, IsValid, FirstFault}
-use Rattle.compact_main.proofs.RowChoice.{IsDecided, row_or_not}
+use Rattle.compact_main.proofs.Decisions.{IsDecided}
+use Rattle.compact_main.proofs.PairChoice.{settled_or_not}
 use Rattle.compact_main.proofs.TextAnswers.{text_answer}
 
 at_most_or_more : (n limit : ℕ) → (n ≤ limit) ⊎ (limit < n)
@@ -99,10 +100,12 @@ module _ (limit : ℕ) (IsBuilt : AnyShape → Type 0) (text : List ℕ) where
 
 -- a text for which something is written is accepted
 pub output_valid : (command : Command) (text written : List ℕ) → Output command text written → IsValid command text
-output_valid commands.Draw text written (drawing, input, places, draws) = (drawing, input, draws.row)
+output_valid (commands.Draw pitch) text written (drawing, input, places, draws) = (drawing, input, draws.settled)
 output_valid commands.Check text written (drawing, input, counted) = (drawing, input, tt)
+output_valid commands.Measure text written (drawing, input, summary, is, measured) = (drawing, input, tt)
 
 -- a command accepts a text, or refuses it for one first fault
 pub command_answer : (command : Command) (text : List ℕ) → HasOneAnswer (λ (accepted : Unit {0}). IsValid command text) (FirstFault command text)
-command_answer commands.Draw text = built_answer (limit_of commands.Draw) IsRow text row_or_not
+command_answer (commands.Draw pitch) text = built_answer (limit_of (commands.Draw pitch)) IsSettled text settled_or_not
 command_answer commands.Check text = built_answer (limit_of commands.Check) IsAny text (λ shape. inl tt)
+command_answer commands.Measure text = built_answer (limit_of commands.Measure) IsAny text (λ shape. inl tt)

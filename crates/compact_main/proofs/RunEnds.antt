@@ -1,24 +1,37 @@
 -- How a run of one command may end.
-use Rattle.std.proofs.Common.{◌≡◌, ℕ, List, ◌++◌, Option, None, Some, inl, refl, sym, ap, ◌∙◌, subst, append-nil}
+use Rattle.std.proofs.Common.{◌≡◌, ℕ, ◌+◌, ◌<◌, List, ◌++◌, length, Option, None, Some, inl, inr, refl, sym, ap, ◌∙◌, subst, append-nil, length-append, arith}
 use Rattle.std.specs.Io.KnownBytes.{Consumes, IsAtEnd, Appends}
-use Rattle.io_ends.specs.Counts.{Rose}
+use Rattle.io_ends.specs.Counts.{Rose, Counted}
+use Rattle.io_ends.specs.Ends.{AppendsFront}
 use Rattle.compact_main.specs.declared.command.Command.{Command}
 use Rattle.compact_main.specs.declared.command.Command.TheVariants as commands
 use Rattle.compact_main.specs.declared.status.Why.{Why}
+use Rattle.compact_main.specs.declared.status.Why.TheVariants.{TooLong}
 use Rattle.compact_main.specs.declared.status.Status.{Status}
-use Rattle.compact_main.specs.declared.status.Status.TheVariants.{Done, Refused}
-use Rattle.compact_main.specs.Commands.{Asks, IsThe}
-use Rattle.compact_main.specs.Intakes.{intake_of, Takes, IsReadOut, IsGiven}
+use Rattle.compact_main.specs.declared.status.Status.TheVariants.{Done, Refused, WriteFault}
+use Rattle.compact_main.specs.Commands.{AskForPlain, Asks, IsThe}
+use Rattle.compact_main.specs.Intakes.{intake_of, limit_of, Takes, IsReadOut, IsGiven}
 use Rattle.compact_main.specs.Outputs.{Output, IsValid, FirstFault}
 use Rattle.compact_main.specs.Runs.{Answers, IsRefused, Completes, IsRun}
+use Rattle.compact_main.specs.inner.Writes.{IsWritten}
 use Rattle.compact_main.proofs.CommandAnswers.{output_valid, command_answer}
+use Rattle.compact_main.proofs.WordLists.{one_plain_pitch}
 
 -- the words ask for one command at most
 pub one_command : (words : List (List ℕ)) (a b : Command) → Asks words a → Asks words b → a ≡ b
-one_command words commands.Draw commands.Draw p q = refl
-one_command words commands.Draw commands.Check p q = let both = sym p ∙ q in cc
-one_command words commands.Check commands.Draw p q = let both = sym p ∙ q in cc
+one_command words (commands.Draw a) (commands.Draw b) (options, p, asked) (others, q, also) =
+    let both = sym p ∙ q in
+    let same : options ≡ others = cc in
+    ap (λ (pitch : ℕ). commands.Draw pitch)
+    (one_plain_pitch others a b (subst (λ (o : List (List ℕ)). AskForPlain o a) same asked) also)
+one_command words (commands.Draw a) commands.Check (options, p, asked) q = let both = sym p ∙ q in cc
+one_command words (commands.Draw a) commands.Measure (options, p, asked) q = let both = sym p ∙ q in cc
+one_command words commands.Check (commands.Draw b) p (options, q, asked) = let both = sym p ∙ q in cc
 one_command words commands.Check commands.Check p q = refl
+one_command words commands.Check commands.Measure p q = let both = sym p ∙ q in cc
+one_command words commands.Measure (commands.Draw b) p (options, q, asked) = let both = sym p ∙ q in cc
+one_command words commands.Measure commands.Check p q = let both = sym p ∙ q in cc
+one_command words commands.Measure commands.Measure p q = refl
 
 -- what was read to the end is all that was left
 read_whole : (left left' : Option (List ℕ)) (text bytes : List ℕ) → left ≡ Some text → Consumes left left' bytes → IsAtEnd left' → bytes ≡ text
@@ -31,17 +44,20 @@ read_whole left left' text bytes known read end = by_rest left' (subst (λ (l : 
 -- what each command reads is a text
 module _ {S : Type 0} (left : S → Option (List ℕ)) (read_faults : S → ℕ) (source source' : S) where
   takes : (command : Command) (bytes : List ℕ) → Consumes (left source) (left source') bytes → Takes (intake_of command) left source source' bytes
-  takes commands.Draw bytes read = read
+  takes (commands.Draw pitch) bytes read = read
   takes commands.Check bytes read = read
+  takes commands.Measure bytes read = read
 
   read_out : (command : Command) → IsAtEnd (left source') → IsReadOut (intake_of command) left source'
-  read_out commands.Draw end = end
+  read_out (commands.Draw pitch) end = end
   read_out commands.Check end = end
+  read_out commands.Measure end = end
 
   given_text : (command : Command) (text : List ℕ) → IsGiven (intake_of command) left read_faults source source' text →
       (left source ≡ Some text) × (Rose (read_faults source) (read_faults source') → ⊥)
-  given_text commands.Draw text given = given
+  given_text (commands.Draw pitch) text given = given
   given_text commands.Check text given = given
+  given_text commands.Measure text given = given
 
 -- the same answers, where the same commands are asked for
 module _ {S : Type 0} {A B : Command → Type 0} (to : (c : Command) → A c → B c) (left : S → Option (List ℕ)) (source source' : S) where
@@ -120,27 +136,84 @@ module _ {S K : Type 0} (command : Command)
         });
   }
 
--- a run that wrote
+-- more bytes than a command reads are too many
+over_text : (left left' : Option (List ℕ)) (text given : List ℕ) (limit : ℕ) → left ≡ Some text → Consumes left left' given → limit < length given → limit < length text
+over_text left left' text given limit known read more = by_rest left' (subst (λ (l : Option (List ℕ)). Consumes l left' given) known read)
+  where
+    by_rest : (l : Option (List ℕ)) → Consumes (Some text) l given → limit < length text
+    by_rest None r = absurd r
+    by_rest (Some rest) r = let is : length text ≡ length given + length rest = ap length r ∙ length-append given rest in omega (arith, is, more)
+
+too_long : (command : Command) (text : List ℕ) → limit_of command < length text → FirstFault command text TooLong
+too_long (commands.Draw pitch) text long = long
+too_long commands.Check text long = long
+too_long commands.Measure text long = long
+
+-- a run whose text is too long
 module _ {S K : Type 0} (command : Command)
-    (left : S → Option (List ℕ)) (read_faults : S → ℕ) (source source' : S) (held : K → Option (List ℕ)) (write_faults : K → ℕ) (out out' : K) where
-  pub done_run : (text written : List ℕ) → Consumes (left source) (left source') text → IsAtEnd (left source') → Output command text written →
-      Appends (held out) (held out') written → read_faults source' ≡ read_faults source → write_faults out' ≡ write_faults out →
-      IsRun (IsThe command) left read_faults source source' held write_faults out out' Done
-  done_run text written read end output appended same_read same_write = record {
+    (left : S → Option (List ℕ)) (read_faults : S → ℕ) (source source' : S) (held : K → Option (List ℕ)) (write_faults : K → ℕ) (out : K) where
+  long_for : (why : Why) (given : List ℕ) → Refused TooLong ≡ Refused why → Consumes (left source) (left source') given →
+      limit_of command < length given → IsRefused (IsThe command) why left source source'
+  long_for why given is read more =
+      let same : TooLong ≡ why = cc in
+      subst (λ (w : Why). IsRefused (IsThe command) w left source source') same
+      (record {
+        command = command;
+        text = given;
+        asked = refl;
+        read = takes left read_faults source source' command given read;
+        to_the_end = λ other. absurd (other refl);
+        fault = too_long command given more;
+      })
+
+  pub long_run : (given : List ℕ) → Consumes (left source) (left source') given → limit_of command < length given →
+      read_faults source' ≡ read_faults source →
+      IsRun (IsThe command) left read_faults source source' held write_faults out out (Refused TooLong)
+  long_run given read more same = record {
     bad_words = (λ is. absurd cc, λ none. absurd (none command refl));
     nothing_read = λ is. absurd cc;
-    done = λ is. record {
-      written = written;
-      answers = record {
-        command = command;
-        text = text;
-        asked = refl;
-        read = takes left read_faults source source' command text read;
-        to_the_end = read_out left read_faults source source' command end;
-        output = output;
-      };
-      appended = appended;
-    };
+    done = λ is. absurd cc;
+    write_fault = λ is. absurd cc;
+    refused = λ other is. long_for other given is read more;
+    read_fault = λ is. absurd cc;
+    no_memory = λ is. absurd cc;
+    nothing_written = λ undone whole. refl;
+    read_counted = λ is. absurd cc;
+    read_uncounted = λ other. same;
+    write_counted = λ is. absurd cc;
+    write_uncounted = λ other. refl;
+    completes = λ c whole asked told steady.
+        let known = (given_text left read_faults source source' c whole told).0 in
+        let first : FirstFault command whole TooLong =
+        too_long command whole (over_text (left source) (left source') whole given (limit_of command) known read more) in
+        let one = command_answer command whole in
+        subst (λ (k : Command). Completes k whole (Refused TooLong)) (sym asked) (record {
+          done = λ valid. absurd (one.not_both tt TooLong valid first);
+          refused = λ other found. inl (ap (λ w. Refused w) (one.one_fault TooLong other first found));
+        });
+  }
+
+-- a run that wrote, or began to
+module _ {S K : Type 0} (command : Command)
+    (left : S → Option (List ℕ)) (read_faults : S → ℕ) (source source' : S) (held : K → Option (List ℕ)) (write_faults : K → ℕ) (out out' : K)
+    (text written : List ℕ) (read : Consumes (left source) (left source') text) (end : IsAtEnd (left source')) (output : Output command text written)
+    (same_read : read_faults source' ≡ read_faults source) where
+  answers : Answers (IsThe command) left source source' written
+  answers = record {
+    command = command;
+    text = text;
+    asked = refl;
+    read = takes left read_faults source source' command text read;
+    to_the_end = read_out left read_faults source source' command end;
+    output = output;
+  }
+
+  done_run : Appends (held out) (held out') written → write_faults out' ≡ write_faults out →
+      IsRun (IsThe command) left read_faults source source' held write_faults out out' Done
+  done_run appended same_write = record {
+    bad_words = (λ is. absurd cc, λ none. absurd (none command refl));
+    nothing_read = λ is. absurd cc;
+    done = λ is. record { written = written; answers = answers; appended = appended };
     write_fault = λ is. absurd cc;
     refused = λ why is. absurd cc;
     read_fault = λ is. absurd cc;
@@ -157,6 +230,29 @@ module _ {S K : Type 0} (command : Command)
         subst (λ (k : Command). Completes k whole Done) (sym asked)
         (record { done = λ v. inl refl; refused = λ why fault. absurd ((command_answer command whole).not_both tt why valid fault) });
   }
+
+  broken_run : AppendsFront (held out) (held out') written → Counted (write_faults out) (write_faults out') →
+      IsRun (IsThe command) left read_faults source source' held write_faults out out' WriteFault
+  broken_run front counted = record {
+    bad_words = (λ is. absurd cc, λ none. absurd (none command refl));
+    nothing_read = λ is. absurd cc;
+    done = λ is. absurd cc;
+    write_fault = λ is. record { written = written; answers = answers; appended = front };
+    refused = λ why is. absurd cc;
+    read_fault = λ is. absurd cc;
+    no_memory = λ is. absurd cc;
+    nothing_written = λ undone whole. absurd (whole refl);
+    read_counted = λ is. absurd cc;
+    read_uncounted = λ other. same_read;
+    write_counted = λ is. counted;
+    write_uncounted = λ other. absurd (other refl);
+    completes = λ c whole asked given steady. absurd (steady counted.rose);
+  }
+
+  pub written_run : (status : Status) → IsWritten written (held out) (held out') (write_faults out) (write_faults out') status →
+      IsRun (IsThe command) left read_faults source source' held write_faults out out' status
+  written_run status (inl (is, appended, same_write)) = rw is (done_run appended same_write)
+  written_run status (inr (is, front, counted)) = rw is (broken_run front counted)
 
 -- the run of the command that the words ask for
 pub asked_run : {S K : Type 0} (words : List (List ℕ)) (command : Command) (left : S → Option (List ℕ)) (read_faults : S → ℕ) (source source' : S)

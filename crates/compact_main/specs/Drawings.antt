@@ -1,8 +1,6 @@
 -- The drawing that a text holds, and why it holds none.
-use Rattle.std.specs.Prelude.{◌≡◌, ℕ, ◌<◌, List, length}
+use Rattle.std.specs.Prelude.{ℕ, List, []}
 use Rattle.compact_types.specs.declared.plan.Shape.{Shape}
-use Rattle.compact_types.specs.declared.plan.Way.TheVariants.{East}
-use Rattle.compact_types.specs.Lookups.{piece_at, way_at}
 use Rattle.gml_text.specs.declared.tree.Tree.{Tree}
 use Rattle.gml_text.specs.Texts.{Spells}
 use Rattle.gml_text.specs.Faults as no_tree
@@ -11,10 +9,10 @@ use Rattle.drawing_read.specs.Readings.{IsReading}
 use Rattle.drawing_read.specs.Faults.{FirstDrawFault}
 use Rattle.drawing_check.specs.Shapes.{IsShapeOf}
 use Rattle.drawing_check.specs.Faults.{FirstShapeFault}
+use Rattle.shape_graphs.specs.Separation.{IsComplete}
 use Rattle.compact_main.specs.declared.drawing.Drawing.{Drawing}
 use Rattle.compact_main.specs.declared.status.Why.{Why}
 use Rattle.compact_main.specs.declared.status.Why.TheVariants as why
-use Rattle.compact_main.specs.Rows.{row_piece}
 
 -- the text has this tree, the tree this reading, and the reading this shape: a connected drawing
 -- without crossings
@@ -34,11 +32,10 @@ FirstTextFault text (why.Shape fault) =
     × FirstShapeFault reading.plan reading.places fault
 FirstTextFault text why.NotYet = ⊥
 
--- every piece goes east from its vertex to the next
-abbrev pub IsRow : Shape → Type 0
-IsRow shape =
-    (i : ℕ) → i < length shape.plan.pieces →
-    (piece_at shape.plan.pieces i ≡ row_piece i) × (way_at shape.ways i ≡ East)
+-- the shape alone keeps apart every pair of segments without a common vertex: no side is left to
+-- choose
+abbrev pub IsSettled : Shape → Type 0
+IsSettled shape = IsComplete shape []
 
 -- every shape
 abbrev pub IsAny : Shape → Type 0

@@ -3,7 +3,7 @@ use Rattle.std.specs.Prelude.{◌≡◌, ℕ, ◌≤◌, List, length, Option, S
 use Rattle.std.specs.Io.KnownBytes.{Consumes, IsAtEnd}
 use Rattle.io_ends.specs.Counts.{Rose}
 use Rattle.compact_main.specs.declared.command.Command.{Command}
-use Rattle.compact_main.specs.declared.command.Command.TheVariants.{Draw, Check}
+use Rattle.compact_main.specs.declared.command.Command.TheVariants.{Draw, Check, Measure}
 use Rattle.compact_main.specs.declared.command.TheConstants.{MOST_INPUT_BYTES}
 
 -- a text of at most so many bytes, to its end
@@ -11,8 +11,9 @@ pub data Intake : Type 0 where
   a_text : ℕ → Intake
 
 abbrev pub intake_of : Command → Intake
-intake_of Draw = a_text MOST_INPUT_BYTES
+intake_of (Draw pitch) = a_text MOST_INPUT_BYTES
 intake_of Check = a_text MOST_INPUT_BYTES
+intake_of Measure = a_text MOST_INPUT_BYTES
 
 -- the most bytes of it
 abbrev pub most_of : Intake → ℕ

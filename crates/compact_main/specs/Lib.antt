@@ -1,8 +1,8 @@
 pub mod Commands
 pub mod Intakes
 pub mod Statuses
-pub mod Rows
 pub mod Drawings
+pub mod Summaries
 pub mod Outputs
 pub mod Runs
 pub mod Notes

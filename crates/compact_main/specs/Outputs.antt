@@ -7,12 +7,14 @@ use Rattle.compact_types.specs.Bests.{total_length, IsBest}
 use Rattle.gml_print.specs.Places.{placed}
 use Rattle.gml_print.specs.Printing.{printed}
 use Rattle.compact_main.specs.declared.command.Command.{Command}
-use Rattle.compact_main.specs.declared.command.Command.TheVariants.{Draw, Check}
+use Rattle.compact_main.specs.declared.command.Command.TheVariants.{Draw, Check, Measure}
 use Rattle.compact_main.specs.declared.drawing.Drawing.{Drawing}
+use Rattle.compact_main.specs.declared.summary.Summary.{Summary}
 use Rattle.compact_main.specs.declared.status.Why.{Why}
 use Rattle.compact_main.specs.declared.status.Why.TheVariants as why
-use Rattle.compact_main.specs.Drawings.{HoldsDrawing, FirstTextFault, IsRow, IsAny}
+use Rattle.compact_main.specs.Drawings.{HoldsDrawing, FirstTextFault, IsSettled, IsAny}
 use Rattle.compact_main.specs.Intakes.{limit_of}
+use Rattle.compact_main.specs.Summaries.{IsSummary, summary_text}
 
 -- the text has no more bytes than the limit, and holds this drawing
 pub record IsInput (limit : ℕ) (text : List ℕ) (drawing : Drawing) : Type 0 where
@@ -36,11 +38,13 @@ FirstReason limit IsBuilt text (why.Shape fault) =
 FirstReason limit IsBuilt text why.NotYet =
     (drawing : Drawing) × IsInput limit text drawing × (IsBuilt drawing.shape → ⊥)
 
--- the tree is written with the best places of its shape, which is a row; all else as it was read
-pub record DrawsRow (drawing : Drawing) (places : Places) (written : List ℕ) : Type 0 where
-  pub row : IsRow drawing.shape
+-- the shape is settled, and its tree is written with the best places and so many units between
+-- neighbouring lines of the grid; all else as it was read
+pub record DrawsBest (drawing : Drawing) (pitch : ℕ) (places : Places) (written : List ℕ) :
+    Type 0 where
+  pub settled : IsSettled drawing.shape
   pub best : IsBest total_length drawing.shape places
-  pub printed : written ≡ printed (placed drawing.tree drawing.reading.spots places 1)
+  pub printed : written ≡ printed (placed drawing.tree drawing.reading.spots places pitch)
 
 -- how many vertices and pieces a plan has
 abbrev pub count_line : Plan → List ℕ
@@ -50,19 +54,24 @@ count_line plan =
 
 -- what the command writes for a text
 abbrev pub Output : Command → List ℕ → List ℕ → Type 0
-Output Draw text written =
-    (drawing : Drawing) × IsInput (limit_of Draw) text drawing
-    × (places : Places) × DrawsRow drawing places written
+Output (Draw pitch) text written =
+    (drawing : Drawing) × IsInput (limit_of (Draw pitch)) text drawing
+    × (places : Places) × DrawsBest drawing pitch places written
 Output Check text written =
     (drawing : Drawing) × IsInput (limit_of Check) text drawing
     × (written ≡ count_line drawing.reading.plan)
+Output Measure text written =
+    (drawing : Drawing) × IsInput (limit_of Measure) text drawing
+    × (summary : Summary) × IsSummary drawing summary × (written ≡ summary_text summary)
 
 -- the command accepts the text
 abbrev pub IsValid : Command → List ℕ → Type 0
-IsValid Draw text = HoldsBuilt (limit_of Draw) IsRow text
+IsValid (Draw pitch) text = HoldsBuilt (limit_of (Draw pitch)) IsSettled text
 IsValid Check text = HoldsBuilt (limit_of Check) IsAny text
+IsValid Measure text = HoldsBuilt (limit_of Measure) IsAny text
 
 -- the command refuses the text for this cause, the first that holds
 abbrev pub FirstFault : Command → List ℕ → Why → Type 0
-FirstFault Draw text why = FirstReason (limit_of Draw) IsRow text why
+FirstFault (Draw pitch) text why = FirstReason (limit_of (Draw pitch)) IsSettled text why
 FirstFault Check text why = FirstReason (limit_of Check) IsAny text why
+FirstFault Measure text why = FirstReason (limit_of Measure) IsAny text why

@@ -1,1 +1,5 @@
+pub mod Askings
+pub mod BestPlaces
 pub mod Rooms
+pub mod PairCounts
+pub mod Writes

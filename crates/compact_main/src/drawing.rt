@@ -21,6 +21,7 @@ pub struct Drawing {
 }
 
 /// The drawing that the text holds, or the first fault of a text that holds none.
+#[tactic(auto, using(drawing_read::proofs::Laws::readable_legible))]
 pub(crate) fn drawing_of(alloc: Global, bytes: &[u8]) -> Result<Drawing, Refusal<Why>>
     requires { length bytes.now ≤ MOST_BYTES }
     ensures { Decides result (HoldsDrawing bytes.now) (FirstTextFault bytes.now) }

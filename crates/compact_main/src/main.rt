@@ -7,21 +7,23 @@
 //! written is a function of the text.
 #![tactic(auto)]
 
+mod best;
 mod command;
 mod drawing;
 mod laws;
 mod note;
 mod notify;
 mod output;
+mod pairs;
 mod room;
-mod rows;
 mod run;
 mod status;
+mod summary;
 
 pub use command::{Command, MOST_INPUT_BYTES};
 use io_ends::{StdSink, StdSource};
 pub use laws::{
-    accepted_texts_have_an_output, outputs_are_functions_of_the_text,
+    accepted_texts_have_an_output, counts_are_exact, outputs_are_functions_of_the_text,
     texts_are_accepted_or_refused, texts_have_one_answer, words_ask_for_one_command,
 };
 use notify::notify;
@@ -29,6 +31,7 @@ pub use run::run_alone;
 pub use status::{Status, Why};
 use std::process::ExitCode;
 use std::{env, io};
+pub use summary::Summary;
 
 fn main(rt: HostRuntime) -> ExitCode {
     let status = match words_of(&rt) {

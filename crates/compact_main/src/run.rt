@@ -1,8 +1,9 @@
 //! The top call: what the words ask for, from reading the text to writing what it is answered.
 
-ghost use Rattle.compact_main.specs.Commands.{texts_of, Asks, IsThe};
+ghost use Rattle.compact_main.specs.Commands.{texts_of, Asks, HasPitch, IsThe};
 ghost use Rattle.compact_main.specs.Notes.{IsTold};
 ghost use Rattle.compact_main.specs.Runs.{IsRun};
+ghost use Rattle.compact_main.specs.inner.Writes.{IsWritten};
 
 use crate::command::{Command, command_of};
 use crate::notify::notify;
@@ -17,6 +18,7 @@ use std::alloc::Global;
 ///
 /// All memory is taken before the first byte is written. Where the status is not Done `notes` gets
 /// one line that says why, made without memory; a fault of `notes` changes no status.
+#[tactic(auto, using(crate::proofs::WordLists::pitch_asked))]
 pub fn run_alone<S: Source, K: Sink, N: Sink>(
     alloc: Global,
     words: &[String],
@@ -50,6 +52,7 @@ fn run_command<S: Source, K: Sink>(
     source: &mut S,
     out: &mut K,
 ) -> Status
+    requires { HasPitch command }
     ensures { IsRun (IsThe command)
         S.left S.faults source.old source.new
         K.held K.faults out.old out.new
@@ -62,15 +65,26 @@ fn run_command<S: Source, K: Sink>(
         Err(ReadEnd::NoMemory) => return Status::NoMemory,
     };
     match answer(alloc, command, bytes.as_slice()) {
-        Ok(written) => match write_all(out, written.as_slice()) {
-            Ok(()) => Status::Done,
-            Err(_fault) => Status::WriteFault,
-        },
+        Ok(written) => write_output(out, written.as_slice()),
         Err(Refusal::Fault(why)) => Status::Refused(why),
         Err(Refusal::NoMemory) => Status::NoMemory,
     }
 }
 
+/// Writes the output of a command, and answers how that ended.
+fn write_output<K: Sink>(out: &mut K, written: &[u8]) -> Status
+    ensures { IsWritten written.now (K.held out.old) (K.held out.new)
+        (K.faults out.old) (K.faults out.new)
+        result }
+{
+    match write_all(out, written) {
+        Ok(()) => Status::Done,
+        Err(_fault) => Status::WriteFault,
+    }
+}
+
+#[cfg(test)]
+mod settled;
 #[cfg(test)]
 mod tests;
 #[cfg(test)]

@@ -1,6 +1,7 @@
 //! End to end: what is written, and what the user is told, by tables of runs.
 
 use crate::run::run_alone;
+use crate::run::settled::*;
 use crate::run::texts::*;
 use crate::status::{Status, Why};
 use drawing_check::ShapeFault;
@@ -28,6 +29,16 @@ struct Row<'a> {
 const PLAIN: &[&str] = &["draw", "--plain"];
 
 const CHECK: &[&str] = &["check"];
+
+const AT_1: &[&str] = &["draw", "--plain", "--pitch", "1"];
+
+const AT_50: &[&str] = &["draw", "--plain", "--pitch", "50"];
+
+const PITCH_FIRST: &[&str] = &["draw", "--pitch", "50", "--plain"];
+
+const AT_10000: &[&str] = &["draw", "--plain", "--pitch", "10000"];
+
+const MEASURE: &[&str] = &["measure"];
 
 const USAGE: &[u8] =
     b"usage: draw [--workers N] [--pitch N] [--plain] | check | measure | verify | sample N\n";
@@ -137,9 +148,7 @@ fn draws_and_counts(rt: HostRuntime) -> Result<(), Fail> {
         drawn("a half step", HALF_STEPS, ONE_NODE_DRAWN),
         drawn("a creator and a comment", WITH_CREATOR, WITH_CREATOR_DRAWN),
         drawn("an edge before its nodes", EDGE_FIRST, EDGE_FIRST_DRAWN),
-        refused("from east to west", FROM_EAST_TO_WEST, Why::NotYet, not_yet),
-        refused("a straight point", STRAIGHT_POINT, Why::NotYet, not_yet),
-        refused("a hook", HOOK, Why::NotYet, not_yet),
+        refused("an open pair", HOOK, Why::NotYet, not_yet),
         Row {
             words: CHECK,
             ..drawn(
@@ -147,6 +156,81 @@ fn draws_and_counts(rt: HostRuntime) -> Result<(), Fail> {
                 HOOK,
                 b"drawing: 5 vertices, 4 pieces\n",
             )
+        },
+    ];
+    for row in &rows {
+        assert_run(&rt, rt.alloc(), row)?;
+    }
+    Ok(())
+}
+
+#[test]
+fn draws_where_no_side_is_left_to_choose(rt: HostRuntime) -> Result<(), Fail> {
+    let rows = [
+        drawn(
+            "from east to west",
+            FROM_EAST_TO_WEST,
+            FROM_EAST_TO_WEST_DRAWN,
+        ),
+        drawn("a straight point", STRAIGHT_POINT, STRAIGHT_POINT_DRAWN),
+        drawn("a square", SQUARE, SQUARE_DRAWN),
+        drawn("two bends", TWO_BENDS, TWO_BENDS_DRAWN),
+        drawn(
+            "points at the ends",
+            TWO_BENDS_AND_ENDS,
+            TWO_BENDS_AND_ENDS_DRAWN,
+        ),
+        drawn("a cross", CROSS, CROSS_DRAWN),
+    ];
+    for row in &rows {
+        assert_run(&rt, rt.alloc(), row)?;
+    }
+    Ok(())
+}
+
+/// A run with these words without faults that writes this.
+fn asked<'a>(words: &'a [&'a str], text: &'a [u8], written: &'a [u8]) -> Row<'a> {
+    Row {
+        words,
+        ..drawn("a pitch", text, written)
+    }
+}
+
+#[test]
+fn draws_at_a_pitch(rt: HostRuntime) -> Result<(), Fail> {
+    let rows = [
+        asked(AT_1, TWO_NODES, TWO_NODES_DRAWN),
+        asked(AT_50, TWO_NODES, TWO_NODES_50_APART),
+        asked(PITCH_FIRST, TWO_NODES, TWO_NODES_50_APART),
+        asked(AT_10000, TWO_NODES, TWO_NODES_10000_APART),
+        asked(AT_50, STYLED, STYLED_50_APART),
+    ];
+    for row in &rows {
+        assert_run(&rt, rt.alloc(), row)?;
+    }
+    Ok(())
+}
+
+/// A run of `measure` without faults that writes these lines.
+fn measured<'a>(name: &'a str, text: &'a [u8], written: &'a [u8]) -> Row<'a> {
+    Row {
+        words: MEASURE,
+        ..drawn(name, text, written)
+    }
+}
+
+#[test]
+fn measures(rt: HostRuntime) -> Result<(), Fail> {
+    let rows = [
+        measured("a hook", HOOK, HOOK_MEASURED),
+        measured("one node", ONE_NODE, ONE_NODE_MEASURED),
+        measured("a chain", CHAIN, CHAIN_MEASURED),
+        measured("a circuit", CIRCUIT, CIRCUIT_MEASURED),
+        measured("a database", DATABASE, DATABASE_MEASURED),
+        measured("classes", CLASSES, CLASSES_MEASURED),
+        Row {
+            words: MEASURE,
+            ..no_shape("two parts", TWO_PARTS, ShapeFault::Disconnected(2), APART)
         },
     ];
     for row in &rows {
@@ -165,10 +249,32 @@ fn bad_words<'a>(name: &'a str, words: &'a [&'a str]) -> Row<'a> {
 }
 
 #[test]
+fn refuses_options(rt: HostRuntime) -> Result<(), Fail> {
+    let twice = ["draw", "--pitch", "2", "--pitch", "2", "--plain"];
+    let rows = [
+        bad_words("no pitch", &["draw", "--plain", "--pitch", "0"]),
+        bad_words("too far apart", &["draw", "--plain", "--pitch", "10001"]),
+        bad_words("a zero in front", &["draw", "--plain", "--pitch", "05"]),
+        bad_words("a sign", &["draw", "--plain", "--pitch", "+5"]),
+        bad_words("one word", &["draw", "--plain", "--pitch=5"]),
+        bad_words("no number", &["draw", "--plain", "--pitch"]),
+        bad_words("a pitch twice", &twice),
+        bad_words("plain twice", &["draw", "--plain", "--plain"]),
+        bad_words("a certificate", &["draw", "--pitch", "5"]),
+        bad_words("options first", &["--plain", "draw"]),
+    ];
+    for row in &rows {
+        assert_run(&rt, rt.alloc(), row)?;
+    }
+    Ok(())
+}
+
+#[test]
 fn ends_by_words_and_faults(rt: HostRuntime) -> Result<(), Fail> {
     let rows = [
         bad_words("an option is missing", &["draw"]),
         bad_words("a word too many", &["check", "x"]),
+        bad_words("a word behind measure", &["measure", "x"]),
         bad_words("no words", &[]),
         Row {
             room: 10,
@@ -320,7 +426,6 @@ fn refuses_places_that_are_no_drawing(rt: HostRuntime) -> Result<(), Fail> {
     let slanted = b"refused: piece 0 is slanted\n";
     let bend_twice = b"refused: piece 1 has no length\n";
     let bend_on_a_node = b"refused: piece 2 has no length\n";
-    let apart = b"refused: vertex 2 is not joined\n";
     let rows = [
         no_shape("a crossing", CROSSING, meeting(0, 1, 5000), crossing),
         no_shape(
@@ -343,12 +448,12 @@ fn refuses_places_that_are_no_drawing(rt: HostRuntime) -> Result<(), Fail> {
             ShapeFault::ZeroPiece(2),
             bend_on_a_node,
         ),
-        no_shape("two parts", TWO_PARTS, ShapeFault::Disconnected(2), apart),
+        no_shape("two parts", TWO_PARTS, ShapeFault::Disconnected(2), APART),
         no_shape(
             "a node on a node",
             NODE_ON_A_NODE,
             ShapeFault::Disconnected(2),
-            apart,
+            APART,
         ),
     ];
     for row in &rows {
@@ -408,13 +513,18 @@ fn row_text(alloc: Global, nodes: u32) -> Result<String, AllocError> {
         let node = format!(in alloc; "  node [ id {k} graphics [ x {k}7 y -3 ] ]\n")?;
         text.push_str(node.as_str())?;
     }
+    push_edges(alloc, &mut text, nodes)?;
+    Ok(text)
+}
+
+/// Adds an edge between each node and the next, and closes the graph.
+fn push_edges(alloc: Global, text: &mut String, nodes: u32) -> Result<(), AllocError> {
     for k in 1..nodes {
         let from = k - 1;
         let edge = format!(in alloc; "  edge [ source {from} target {k} ]\n")?;
         text.push_str(edge.as_str())?;
     }
-    text.push_str("]\n")?;
-    Ok(text)
+    text.push_str("]\n")
 }
 
 /// What is written for it: node k stands at (k, 0).
@@ -504,4 +614,25 @@ fn reads_up_to_the_limit(rt: HostRuntime) -> Result<(), Fail> {
             ..row
         },
     )
+}
+
+/// The text of a staircase of so many nodes: in turn a step east and a step up.
+fn stair_text(alloc: Global, nodes: u32) -> Result<String, AllocError> {
+    let mut text = String::from_str(alloc, "graph [\n")?;
+    for k in 0..nodes {
+        let (x, y) = ((k + 1) / 2, k / 2);
+        let node = format!(in alloc; "  node [ id {k} graphics [ x {x} y {y} ] ]\n")?;
+        text.push_str(node.as_str())?;
+    }
+    push_edges(alloc, &mut text, nodes)?;
+    Ok(text)
+}
+
+/// Each step is a segment, and shares a vertex with the next. Of 999 segments 998 such pairs are
+/// none, which leaves 498,501 - 998, and the steps between keep each of these apart.
+#[test]
+fn measures_a_thousand_vertices(rt: HostRuntime) -> Result<(), Fail> {
+    let text = stair_text(rt.alloc(), 1000)?;
+    let row = measured("1,000 steps", text.as_bytes(), STAIR_MEASURED);
+    assert_long(&rt, rt.alloc(), &row)
 }

@@ -8,3 +8,10 @@ returns-then-ne-clause-run g c =
     g.S.Source.left g.S.Source.faults c.args.source.now c.run_command-status.new.source
     g.K.Sink.held g.K.Sink.faults c.args.out.now c.run_command-status.new.out
     c.run_command-status.result c.in-Some.ensures.some c.run_command-status.ensures
+
+pub returns-else-ne-clause-run : goal.returns-else-ne-clause-run
+returns-else-ne-clause-run g c =
+    asked_run (texts_of c.args.words.now) c.in-Some.command
+    g.S.Source.left g.S.Source.faults c.args.source.now c.run_command-status.new.source
+    g.K.Sink.held g.K.Sink.faults c.args.out.now c.run_command-status.new.out
+    c.run_command-status.result c.in-Some.ensures.some c.run_command-status.ensures

@@ -1,0 +1,32 @@
+-- What is known of the shape of a drawing that was read.
+use Rattle.std.proofs.Common.{◌<◌, ◌≤◌, sym, subst, arith}
+use Rattle.compact_types.specs.declared.limits.TheConstants.{MOST_VERTICES}
+use Rattle.compact_types.specs.declared.plan.Plan.{Plan}
+use Rattle.compact_types.specs.declared.plan.Shape.{Shape}
+use Rattle.compact_types.specs.Connected.{IsConnected}
+use Rattle.gml_text.specs.declared.tree.Tree.{Tree}
+use Rattle.drawing_read.specs.declared.reading.Reading.{Reading}
+use Rattle.drawing_read.specs.Readings.{IsReading, IsWithinLimits}
+use Rattle.drawing_read.proofs.Laws.{reading_within_limits}
+use Rattle.drawing_check.specs.Shapes.{IsShapeOf}
+use Rattle.bars.specs.Segments.{segment_count}
+use Rattle.bars.specs.Solutions.{IsSound}
+use Rattle.bars.proofs.Laws.{few_segments}
+
+-- a reading keeps the limits
+pub within_limits : (tree : Tree) (reading : Reading) → IsReading tree reading → IsWithinLimits reading
+within_limits tree reading read = reading_within_limits tree reading read
+
+-- its shape is connected, small, and has the drawing that was read
+pub sound_shape : (tree : Tree) (reading : Reading) (shape : Shape) → IsReading tree reading → IsShapeOf reading.plan reading.places shape → IsSound shape
+sound_shape tree reading shape read is =
+    let limits = reading_within_limits tree reading read in
+    record {
+      connected = subst (λ (p : Plan). IsConnected p) (sym is.same_plan) is.connected;
+      some_vertex = subst (λ (p : Plan). 0 < p.vertices) (sym is.same_plan) limits.some_vertex;
+      few_vertices = subst (λ (p : Plan). p.vertices ≤ MOST_VERTICES) (sym is.same_plan) limits.few_vertices;
+      drawable = (reading.places, record { crossing_free = is.crossing_free });
+    }
+
+pub few_segments_sound : (shape : Shape) → IsSound shape → segment_count shape ≤ MOST_VERTICES
+few_segments_sound shape sound = let few = few_segments shape sound.drawable in let most = sound.few_vertices in omega arith

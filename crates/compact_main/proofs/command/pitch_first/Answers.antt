@@ -1,0 +1,10 @@
+use Rattle.compact_main.proofs.WordLists.{pitch_twice, with_number}
+use Rattle.compact_main.proofs.command.pitch_first.Goals as goal
+
+pub returns-in-Some : goal.returns-in-Some
+returns-in-Some c = λ words are. pitch_twice words c.args.digits.now c.args.plain c.args.given _ c.in-Some.is are
+
+pub returns-in-None : goal.returns-in-None
+returns-in-None c = λ words are.
+    with_number words c.args.digits.now c.args.plain c.args.given c.pitch_of.result c.with_pitch.result c.in-None.is
+    c.pitch_of.ensures.some c.pitch_of.ensures.none c.with_pitch.ensures are
