@@ -47,7 +47,8 @@ fn graph_along(
     ensures { IfOk result (IsGraphOf axis bars.now extension.now.choices) }
 {
     let pieces = bars.shape().plan.pieces.len();
-    let mut arcs = Items::from_vec(Vec::with_capacity(alloc, pieces)?);
+    let room = pieces.saturating_add(extension.choices.len());
+    let mut arcs = Items::from_vec(Vec::with_capacity(alloc, room)?);
     push_arcs(&mut arcs, bars, extension.choices.as_slice(), axis)?;
     let nodes = node_count(bars, axis);
     Ok(DiffGraph { nodes, arcs })

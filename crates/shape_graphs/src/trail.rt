@@ -49,8 +49,8 @@ pub(crate) fn search(alloc: Global, graph: &DiffGraph) -> Result<Found, NoMemory
     let mut trail = Trail {
         next: last,
         marks: all_fresh(alloc, graph.nodes)?,
-        walk: Items::new(alloc),
-        passed: Items::new(alloc),
+        walk: Items::from_vec(Vec::with_capacity(alloc, graph.nodes as usize)?),
+        passed: Items::from_vec(Vec::with_capacity(alloc, graph.arcs.len())?),
     };
     for start in 0..graph.nodes {
         if let Some(met) = walk_from(graph, before.as_slice(), &mut trail, start)? {
@@ -70,7 +70,7 @@ fn arcs_into(alloc: Global, graph: &DiffGraph) -> Result<(Items<u32>, Items<u32>
 {
     let arcs = graph.arcs.as_slice();
     let mut last = Items::from_vec(vec![in alloc; 0u32; graph.nodes as usize]?);
-    let mut before = Items::new(alloc);
+    let mut before = Items::from_vec(Vec::with_capacity(alloc, arcs.len())?);
     for i in 0..arcs.len() {
         let node = arcs[i].to as usize;
         before.push(last.as_slice()[node])?;
