@@ -4,6 +4,7 @@ use Rattle.std.specs.List.{count_by}
 use Rattle.std.proofs.lemmas.Bool.{cases_Bool, cases_lt, cases_order, or_cases, or_parts, and_parts, and_cases, eqb-true, eqb-false, ltb-true, ltb-false, cond-true, cond-false}
 use Rattle.std.proofs.lemmas.List.FromFn.{fill_by_all}
 use Rattle.std.proofs.lemmas.Int.{ints}
+use Rattle.compact_types.specs.declared.places.Axis.{Axis}
 use Rattle.compact_types.specs.declared.places.Axis.TheVariants.{X, Y}
 use Rattle.compact_types.specs.declared.places.Places.{Places}
 use Rattle.compact_types.specs.declared.plan.Shape.{Shape}
@@ -17,7 +18,7 @@ use Rattle.separation.specs.declared.extents.Extent.{Extent}
 use Rattle.separation.specs.Branching.{IsNotAfter}
 use Rattle.separation.specs.Meetings.{ShareAPoint}
 use Rattle.separation.specs.Reaching.{HasOpenSides}
-use Rattle.separation.specs.inner.Extents.{extent_at, IsExtent, AreExtents, BeginInOrder, overlap}
+use Rattle.separation.specs.inner.Extents.{extent_at, IsExtent, IsExtentAlong, AreExtentsAlong, BeginInOrder, overlap, turned_along}
 use Rattle.separation.specs.inner.Candidates.{comes_before, first_of, IsCandidate, IsFound, Covers, Progress, AreThese, IsSeenWith, IsSeenBefore}
 use Rattle.separation.proofs.Centre as centre
 use Rattle.separation.proofs.EndLemmas.{overlap_holds, overlap_from}
@@ -153,6 +154,12 @@ module _ (shape : Shape) (choices : List Choice) where
           by_test (inl before) = subst (λ (o : Option Candidate). IsFound shape choices places o) (sym (cond-true (comes_before c b) (Some c) (Some b) before)) (only c is)
           by_test (inr after) = subst (λ (o : Option Candidate). IsFound shape choices places o) (sym (cond-false (comes_before c b) (Some c) (Some b) after)) found
 
+-- extents that overlap do so once both are turned
+overlap_turned : (a b : Extent) → overlap a b ≡ true → overlap (turned_along Y a) (turned_along Y b) ≡ true
+overlap_turned a b holds =
+    let o = overlap_holds a b holds in
+    overlap_from (turned_along Y a) (turned_along Y b) (record { x_first = o.y_first; x_second = o.y_second; y_first = o.x_first; y_second = o.x_second })
+
 module _ (shape : Shape) (drawing : HasDrawing shape) (places : Places) (ways : HasWays shape places) where
   -- the numbers of an extent are the bounds of its segment
   pub record AreBounds (e : Extent) (within : e.segment < segment_count shape) : Type 0 where
@@ -220,6 +227,14 @@ module _ (shape : Shape) (drawing : HasDrawing shape) (places : Places) (ways : 
         overlap_from_share a b is_a is_b (at.0, at.2, at.1)),
   )
 
+  -- the same along either axis
+  pub share_along : (axis : Axis) (a b : Extent) (s t : ℕ) → IsExtentAlong axis shape places a → IsExtentAlong axis shape places b → AreThese a.segment b.segment s t →
+      (overlap a b ≡ true → ShareAPoint shape places s t) × (ShareAPoint shape places s t → overlap a b ≡ true)
+  share_along X a b s t is_a is_b these = share_of_these a b s t is_a is_b these
+  share_along Y a b s t is_a is_b these =
+      let both = share_of_these (turned_along Y a) (turned_along Y b) s t is_a is_b these in
+      (λ holds. both.0 (overlap_turned a b holds), λ share. overlap_turned (turned_along Y a) (turned_along Y b) (both.1 share))
+
 -- two pairs of the same two segments are one
 pub one_order : (a b s t u v : ℕ) → s < t → u < v → AreThese a b s t → AreThese a b u v → (s ≡ u) × (t ≡ v)
 one_order a b s t u v first second (inl p) (inl q) = (p.0 ∙ sym q.0, p.1 ∙ sym q.1)
@@ -256,11 +271,11 @@ module _ (shape : Shape) (choices : List Choice) (places : Places) where
       by_step s t pair share (inr second) = two.covered s t second pair share
 
   -- a step that looks at one pair
-  pub pair_progress : (drawing : HasDrawing shape) (ways : HasWays shape places) (a b : Extent) (best : Option Candidate) (c : Candidate) →
-      IsExtent shape places a → IsExtent shape places b → overlap a b ≡ true → AreThese a.segment b.segment c.s c.t → IsPair shape c.s c.t →
+  pub pair_progress : (axis : Axis) (drawing : HasDrawing shape) (ways : HasWays shape places) (a b : Extent) (best : Option Candidate) (c : Candidate) →
+      IsExtentAlong axis shape places a → IsExtentAlong axis shape places b → overlap a b ≡ true → AreThese a.segment b.segment c.s c.t → IsPair shape c.s c.t →
       HasOpenSides shape choices c.s c.t c.«open» → Progress shape choices places best (first_of best c) (AreThese a.segment b.segment)
-  pair_progress drawing ways a b best c is_a is_b holds these pair open_sides = record {
-    found = first_found shape choices places best c (record { pair = pair; share = (share_of_these shape drawing places ways a b c.s c.t is_a is_b these).0 holds; open_sides = open_sides });
+  pair_progress axis drawing ways a b best c is_a is_b holds these pair open_sides = record {
+    found = first_found shape choices places best c (record { pair = pair; share = (share_along shape drawing places ways axis a b c.s c.t is_a is_b these).0 holds; open_sides = open_sides });
     kept = first_keeps shape choices best c;
     covered = λ s t seen other share. (
         let same = one_order a.segment b.segment c.s c.t s t pair.in_order other.in_order these seen in
@@ -299,10 +314,10 @@ module _ (shape : Shape) (choices : List Choice) (places : Places) where
           inr (subst (λ (a : ℕ). IsSeenWith extents a (length extents) s t) same seen.2)
 
   -- extents that begin past the end of extent i share no point with it
-  pub none_past : (drawing : HasDrawing shape) (ways : HasWays shape places) (extents : List Extent) (i j s t : ℕ) → AreExtents shape places extents → BeginInOrder extents →
+  pub none_past : (axis : Axis) (drawing : HasDrawing shape) (ways : HasWays shape places) (extents : List Extent) (i j s t : ℕ) → AreExtentsAlong axis shape places extents → BeginInOrder extents →
       i < length extents → j < length extents → int_lt (extent_at extents i).right (extent_at extents j).left ≡ true →
       IsSeenWith extents i (length extents) s t → IsPair shape s t → ShareAPoint shape places s t → IsSeenWith extents i j s t
-  none_past drawing ways extents i j s t are in_order i_within j_within past seen pair share = by_order (cases_lt seen.0 j)
+  none_past axis drawing ways extents i j s t are in_order i_within j_within past seen pair share = by_order (cases_lt seen.0 j)
     where
       left_at : (b : ℕ) → (j < b) ⊎ (b ≡ j) → b < length extents → (extent_at extents j).left ≤ℤ (extent_at extents b).left
       left_at b (inl behind) within = in_order j b behind within
@@ -321,7 +336,7 @@ module _ (shape : Shape) (choices : List Choice) (places : Places) where
       by_order (inr here) =
           let gap = less_than (extent_at extents i).right (extent_at extents j).left past in
           let left = left_at seen.0 (behind_or_same here (cases_order seen.0 j)) seen.2 in
-          let holds = (share_of_these shape drawing places ways (extent_at extents i) (extent_at extents seen.0) s t (are i i_within) (are seen.0 seen.2) seen.3).1 share in
+          let holds = (share_along shape drawing places ways axis (extent_at extents i) (extent_at extents seen.0) s t (are i i_within) (are seen.0 seen.2) seen.3).1 share in
           let overlaps = overlap_holds (extent_at extents i) (extent_at extents seen.0) holds in
           let first = overlaps.x_first in
           absurd (omega (arith, ints, gap, left, first))

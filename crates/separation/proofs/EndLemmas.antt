@@ -1,5 +1,5 @@
 -- Extents of segments, and the coordinates of nodes.
-use Rattle.std.proofs.Common.{◌≡◌, ℕ, ℤ, pos, ◌<◌, ◌≤◌, ◌<ℤ◌, ◌≤ℤ◌, true, false, int_le, List, length, set, ◌⊎◌, inl, inr, subst, sym, ap, ◌∙◌, arith, ◌+◌, get_or-set_same, get_or-set_other}
+use Rattle.std.proofs.Common.{◌≡◌, ℕ, ℤ, pos, ◌<◌, ◌≤◌, ◌<ℤ◌, ◌≤ℤ◌, true, false, int_le, List, length, set, ◌⊎◌, inl, inr, subst, sym, ap, refl, ◌∙◌, arith, ◌+◌, get_or-set_same, get_or-set_other}
 use Rattle.std.proofs.Common.{Ordering, Less, Equal, Greater}
 use Rattle.std.specs.Ordering.{MatchOrdering, is_lt, int_cmp}
 use Rattle.std.specs.Cmp.{int_ranks}
@@ -10,14 +10,17 @@ use Rattle.std.proofs.lemmas.List.MinMax.{ranks_by}
 use Rattle.std.proofs.lemmas.List.Sorted.{sorted_far}
 use Rattle.std.proofs.lemmas.Int.{ints}
 use Rattle.compact_types.specs.declared.places.Axis.{Axis}
+use Rattle.compact_types.specs.declared.places.Axis.TheVariants.{X, Y}
 use Rattle.compact_types.specs.declared.places.Places.{Places}
 use Rattle.compact_types.specs.declared.plan.Shape.{Shape}
 use Rattle.compact_types.specs.Drawings.{HasWays}
 use Rattle.compact_types.specs.Lookups.{along, place, other_axis}
 use Rattle.bars.specs.Segments.{segment_count, node_of, node_count, low_node, high_node}
-use Rattle.bars.proofs.Laws.{low_below, high_below, line_below, level_node, few_lines}
+use Rattle.bars.specs.Lines.{line_count}
+use Rattle.bars.specs.Solutions.{HasDrawing}
+use Rattle.bars.proofs.Laws.{low_below, high_below, line_below, level_node, few_lines, few_segments}
 use Rattle.separation.specs.declared.extents.Extent.{Extent}
-use Rattle.separation.specs.inner.Extents.{nowhere, extent_at, number_at, IsAtNode, AreAtNodes, IsExtent, BeginInOrder, ArePut, meet_in_x, meet_in_y, overlap}
+use Rattle.separation.specs.inner.Extents.{nowhere, extent_at, number_at, IsAtNode, AreAtNodes, IsExtent, BeginInOrder, ArePut, HasRoom, meet_in_x, meet_in_y, overlap, turned_along, AreTurned, AreExtents, IsExtentAlong, AreExtentsAlong}
 
 -- the nodes of a segment and of a vertex are within the room for all nodes
 pub low_inside : (axis : Axis) (shape : Shape) (s n : ℕ) → s < segment_count shape → node_count axis shape ≤ n → low_node axis shape s < n
@@ -90,6 +93,65 @@ at_node axis shape places numbers node are v vertex same = are v vertex ∙ ap (
 -- there is room for all nodes where there is room for all vertices
 pub few_nodes : (axis : Axis) (shape : Shape) (room : ℕ) → shape.plan.vertices ≤ room → node_count axis shape ≤ room
 few_nodes axis shape room fits = let few = few_lines (other_axis axis) shape in omega (arith, few, fits)
+
+-- so there is room for all
+pub room_for_all : (shape : Shape) (room : ℕ) → HasDrawing shape → shape.plan.vertices ≤ room → HasRoom shape room
+room_for_all shape room drawing fits = record {
+  segments = (let few = few_segments shape drawing in omega (arith, few, fits));
+  nodes = λ axis. few_nodes axis shape room fits;
+}
+
+-- the columns are the nodes along x, and the rows those along y
+pub room_from : (shape : Shape) (room : ℕ) → segment_count shape ≤ room → line_count Y shape ≤ room → line_count X shape ≤ room → HasRoom shape room
+room_from shape room segments columns rows = record { segments = segments; nodes = by_axis }
+  where
+    by_axis : (axis : Axis) → node_count axis shape ≤ room
+    by_axis X = columns
+    by_axis Y = rows
+
+-- an extent that is turned twice is as before, and has the same segment
+turned_twice : (axis : Axis) (e : Extent) → turned_along axis (turned_along axis e) ≡ e
+turned_twice X e = refl
+turned_twice Y e = refl
+
+segment_turned : (axis : Axis) (e : Extent) → (turned_along axis e).segment ≡ e.segment
+segment_turned X e = refl
+segment_turned Y e = refl
+
+pub segments_turned : (axis : Axis) (before after : List Extent) (n : ℕ) → length before ≡ n → AreTurned axis before after →
+    ((s : ℕ) → s < n → (extent_at before s).segment ≡ s) → (s : ℕ) → s < n → (extent_at after s).segment ≡ s
+segments_turned axis before after n fits turned own s within =
+    ap (λ (e : Extent). e.segment) (turned s (omega (arith, within, fits))) ∙ segment_turned axis (extent_at before s) ∙ own s within
+
+pub extents_turned : (axis : Axis) (shape : Shape) (places : Places) (before after : List Extent) → length after ≡ length before → AreTurned axis before after →
+    AreExtents shape places before → AreExtentsAlong axis shape places after
+extents_turned axis shape places before after fits turned are k within =
+    subst (λ (e : Extent). IsExtentAlong axis shape places e) (sym (turned k inside))
+    (subst (λ (e : Extent). IsExtent shape places e) (sym (turned_twice axis (extent_at before k))) (are k inside))
+  where
+    inside : k < length before
+    inside = omega (arith, within, fits)
+
+-- the extents before place i are turned, and the others are not
+pub record AreTurnedTo (i : ℕ) (before now : List Extent) : Type 0 where
+  pub done : (k : ℕ) → k < i → k < length before → extent_at now k ≡ turned_along Y (extent_at before k)
+  pub rest : (k : ℕ) → i ≤ k → extent_at now k ≡ extent_at before k
+
+pub turned_one_more : (i n : ℕ) (before now : List Extent) (e : Extent) → n ≡ i + 1 → i < length now → e ≡ turned_along Y (extent_at now i) → AreTurnedTo i before now →
+    AreTurnedTo n before (set now i e)
+turned_one_more i n before now e next inside is turned = record { done = λ k less within. by_order k within less (cases_lt k i); rest = others }
+  where
+    by_order : (k : ℕ) → k < length before → k < n → (k < i) ⊎ (i ≤ k) → extent_at (set now i e) k ≡ turned_along Y (extent_at before k)
+    by_order k within less (inl earlier) =
+        get_or-set_other now i k e nowhere (let other : k ≡ i → ⊥ = λ same. omega (arith, earlier, same) in other) ∙ turned.done k earlier within
+    by_order k within less (inr here) =
+        let same : k ≡ i = omega (arith, here, less, next) in
+        ap (extent_at (set now i e)) same ∙ get_or-set_same now i e nowhere inside ∙ is ∙
+        ap (turned_along Y) (turned.rest i (omega arith) ∙ sym (ap (extent_at before) same))
+
+    others : (k : ℕ) → n ≤ k → extent_at (set now i e) k ≡ extent_at before k
+    others k past =
+        get_or-set_other now i k e nowhere (let other : k ≡ i → ⊥ = λ same. omega (arith, past, same, next) in other) ∙ turned.rest k (omega (arith, past, next))
 
 -- one extent more
 pub put_one_more : (shape : Shape) (places : Places) (n m : ℕ) (extents : List Extent) (e : Extent) → n < length extents → m ≡ n + 1 → e.segment ≡ n →

@@ -1,5 +1,7 @@
 pub mod Centre
 pub mod PairSides
+pub mod Turning
+pub mod SharingLemmas
 pub mod EndLemmas
 pub mod CandidateLemmas
 pub mod Sorted

@@ -1,5 +1,5 @@
 -- The graphs of a list of choices and one more.
-use Rattle.std.proofs.Common.{◌≡◌, ℕ, zero, suc, ◌<◌, ◌≤◌, Bool, true, false, Option, Some, None, List, [], ◌∷◌, ◌++◌, length, slice_index_or, take, drop, if◌then◌else◌, ◌⊎◌, inl, inr, subst, sym, ap, refl, ◌∙◌, arith}
+use Rattle.std.proofs.Common.{◌≡◌, ℕ, zero, suc, ◌<◌, ◌≤◌, false, Option, Some, None, List, [], ◌∷◌, ◌++◌, length, take, drop, if◌then◌else◌, subst, sym, ap, refl, ◌∙◌, arith}
 use Rattle.std.specs.List.{filter_map, cons_option}
 use Rattle.std.proofs.lemmas.Bool.{cond-true, cond-false}
 use Rattle.std.proofs.lemmas.List.{append_assoc, append-nil, get_or_append_left, take-append-drop}
@@ -10,7 +10,7 @@ use Rattle.compact_types.specs.declared.places.Axis.TheVariants.{X, Y}
 use Rattle.compact_types.specs.declared.plan.Shape.{Shape}
 use Rattle.compact_types.specs.declared.search.Choice.{Choice}
 use Rattle.bars.specs.Lines.{is_axis}
-use Rattle.bars.specs.Segments.{node_count, IsPair}
+use Rattle.bars.specs.Segments.{node_count}
 use Rattle.bars.specs.Sides.{side_axis}
 use Rattle.bars.specs.Solutions.{with_choice, choice_at}
 use Rattle.bars.proofs.Laws.{is_axis_at}
@@ -19,8 +19,8 @@ use Rattle.shape_graphs.specs.Arcs.{arc_at, no_arc}
 use Rattle.shape_graphs.specs.Graphs.{side_arc, piece_arcs, choice_arcs, arcs_of}
 use Rattle.shape_graphs.specs.Paths.{HasPath}
 use Rattle.shape_graphs.specs.Paths.HasPath.{along_arc, arc_and_path}
-use Rattle.shape_graphs.specs.Separation.{IsKept, IsSeparated}
-use Rattle.shape_graphs.proofs.Laws.{KeepsAlong, has_choice_arc}
+use Rattle.shape_graphs.specs.Separation.{IsSeparated}
+use Rattle.shape_graphs.proofs.Laws.{has_choice_arc}
 use Rattle.reach_rows.specs.declared.rows.ReachRows.{ReachRows}
 use Rattle.reach_rows.specs.Reaching.{AreRowsOf}
 

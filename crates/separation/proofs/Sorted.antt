@@ -6,6 +6,7 @@ use Rattle.std.specs.List.Sorted.{IsPermutation}
 use Rattle.std.proofs.lemmas.Bool.{cases_order}
 use Rattle.std.proofs.lemmas.List.Elements.{Contains-get_or, All-from_get_or, All-get_or}
 use Rattle.std.proofs.lemmas.List.Sorted.{All-permutation, Contains-permutation}
+use Rattle.compact_types.specs.declared.places.Axis.{Axis}
 use Rattle.compact_types.specs.declared.places.Places.{Places}
 use Rattle.compact_types.specs.declared.plan.Shape.{Shape}
 use Rattle.compact_types.specs.declared.search.Choice.{Choice}
@@ -15,7 +16,7 @@ use Rattle.bars.specs.Solutions.{HasDrawing, Solves}
 use Rattle.separation.specs.declared.candidates.Candidate.{Candidate}
 use Rattle.separation.specs.declared.extents.Extent.{Extent}
 use Rattle.separation.specs.Branching.{IsBranchPair, IsNotAfter}
-use Rattle.separation.specs.inner.Extents.{nowhere, extent_at, IsExtent, AreExtents, AreInShape}
+use Rattle.separation.specs.inner.Extents.{nowhere, extent_at, IsExtentAlong, AreExtentsAlong, AreInShape}
 use Rattle.separation.specs.inner.Candidates.{IsCandidate, Progress, IsSeenBefore}
 use Rattle.separation.proofs.Centre.{drawn_from_apart, first_there}
 use Rattle.separation.proofs.CandidateLemmas.{one_count}
@@ -32,8 +33,9 @@ sorted_in_shape shape before after moved fits own =
     sorted_keeps (λ extent. extent.segment < segment_count shape) before after moved
     (λ k within. (let below : k < segment_count shape = omega (arith, within, fits) in let is = own k below in omega (arith, is, below)))
 
-pub sorted_extents : (shape : Shape) (places : Places) (before after : List Extent) → IsPermutation before after → AreExtents shape places before → AreExtents shape places after
-sorted_extents shape places before after moved are = sorted_keeps (λ extent. IsExtent shape places extent) before after moved are
+pub sorted_extents : (axis : Axis) (shape : Shape) (places : Places) (before after : List Extent) → IsPermutation before after → AreExtentsAlong axis shape places before →
+    AreExtentsAlong axis shape places after
+sorted_extents axis shape places before after moved are = sorted_keeps (λ extent. IsExtentAlong axis shape places extent) before after moved are
 
 module _ (shape : Shape) (before after : List Extent) (moved : IsPermutation before after) (fits : length before ≡ segment_count shape)
     (own : (s : ℕ) → s < segment_count shape → (extent_at before s).segment ≡ s) where

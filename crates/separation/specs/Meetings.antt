@@ -17,3 +17,8 @@ ShareAPoint shape places s t = (z : Point) × LiesOn shape places s z × LiesOn 
 -- no two segments without a common vertex share a point
 abbrev pub AreApart : Shape → Places → Type 0
 AreApart shape places = (s t : ℕ) → IsPair shape s t → ShareAPoint shape places s t → ⊥
+
+-- a pair of segments without a common vertex that share a point in the places
+pub record IsSharingPair (shape : Shape) (places : Places) (s t : ℕ) : Type 0 where
+  pub pair : IsPair shape s t
+  pub share : ShareAPoint shape places s t

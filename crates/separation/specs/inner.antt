@@ -1,3 +1,4 @@
 pub mod Extents
 pub mod Candidates
 pub mod Choosing
+pub mod Sharing

@@ -2,15 +2,18 @@
 
 ghost use Rattle.std.specs.Prelude.{◌≡◌, ◌<◌, ◌↔◌, Bool, IsTrue, length, List, None};
 ghost use Rattle.std.specs.List.{count_by};
+ghost use Rattle.compact_types.specs.declared.places.Axis.{Axis};
 ghost use Rattle.compact_types.specs.declared.places.Places.{Places};
 ghost use Rattle.compact_types.specs.declared.search.Choice.{Choice};
 ghost use Rattle.bars.specs.Segments.{segment_count, IsPair, ShareVertex};
 ghost use Rattle.separation.specs.Reaching.{IsReachOf, IsReach, HasOpenSides};
-ghost use Rattle.separation.specs.inner.Extents.{IsExtent, AreExtents, AreInShape, BeginInOrder};
+ghost use Rattle.separation.specs.inner.Extents.{IsExtentAlong, AreExtentsAlong};
+ghost use Rattle.separation.specs.inner.Extents.{AreInShape, BeginInOrder};
 ghost use Rattle.separation.specs.inner.Candidates.{first_of, comes_before, IsSetting, Progress};
 ghost use Rattle.separation.specs.inner.Candidates.{AreThese, IsSeenWith, IsSeenBefore};
 
 use crate::extents::{Extent, ends_west, overlap};
+use crate::sharing::are_joined;
 use crate::sides::{Reach, Sides, open_sides};
 use bars::Bars;
 
@@ -23,13 +26,14 @@ pub(crate) struct Candidate {
 }
 
 /// The first of the pairs that share a point, by the number of their open sides and then in list
-/// order. It goes from west to east, and compares each extent with those that begin before it ends.
+/// order. It goes along the axis of the extents, and compares each with those that begin before it
+/// ends.
 pub(crate) fn fewest_open(bars: &Bars, reach: &Reach, extents: &[Extent]) -> Option<Candidate>
     requires in_shape { AreInShape bars.now extents.now }
     requires reach { IsReach bars.now reach.now }
-    ensures { (choices : List Choice) (places : Places) →
+    ensures { (axis : Axis) (choices : List Choice) (places : Places) →
         IsSetting bars.now choices places reach.now →
-        AreExtents bars.now places extents.now → BeginInOrder extents.now →
+        AreExtentsAlong axis bars.now places extents.now → BeginInOrder extents.now →
         Progress bars.now choices places None result
         (IsSeenBefore extents.now (length extents.now)) }
 {
@@ -51,9 +55,9 @@ fn with_later(
     requires in_shape { AreInShape bars.now extents.now }
     requires reach { IsReach bars.now reach.now }
     requires i { i < length extents.now }
-    ensures { (choices : List Choice) (places : Places) →
+    ensures { (axis : Axis) (choices : List Choice) (places : Places) →
         IsSetting bars.now choices places reach.now →
-        AreExtents bars.now places extents.now → BeginInOrder extents.now →
+        AreExtentsAlong axis bars.now places extents.now → BeginInOrder extents.now →
         Progress bars.now choices places best result
         (IsSeenWith extents.now i (length extents.now)) }
 {
@@ -80,9 +84,10 @@ fn with_pair(
     requires first { first.segment < segment_count bars.now }
     requires second { second.segment < segment_count bars.now }
     requires reach { IsReach bars.now reach.now }
-    ensures { (choices : List Choice) (places : Places) →
+    ensures { (axis : Axis) (choices : List Choice) (places : Places) →
         IsSetting bars.now choices places reach.now →
-        IsExtent bars.now places first → IsExtent bars.now places second →
+        IsExtentAlong axis bars.now places first →
+        IsExtentAlong axis bars.now places second →
         Progress bars.now choices places best result (AreThese first.segment second.segment) }
 {
     if !overlap(&first, &second) {
@@ -93,15 +98,6 @@ fn with_pair(
     }
     let candidate = candidate_of(bars, reach, first.segment, second.segment);
     first_of(best, candidate)
-}
-
-/// Whether the segments of the two extents have a vertex in common.
-fn are_joined(bars: &Bars, a: &Extent, b: &Extent) -> bool
-    requires a { a.now.segment < segment_count bars.now }
-    requires b { b.now.segment < segment_count bars.now }
-    ensures { IsTrue result ↔ ShareVertex bars.now a.now.segment b.now.segment }
-{
-    bars.share_vertex(a.segment, b.segment)
 }
 
 /// The pair of two segments without a common vertex.

@@ -8,7 +8,7 @@ ghost use Rattle.bars.specs.Solutions.{Fit, Solves};
 ghost use Rattle.shape_graphs.specs.Separation.{IsComplete};
 ghost use Rattle.separation.specs.Extensions.{IsExtensionOf};
 ghost use Rattle.separation.specs.inner.Choosing.{AreChosen, AreLeast, least_side};
-ghost use Rattle.separation.specs.inner.Extents.{extent_at, AreExtents};
+ghost use Rattle.separation.specs.inner.Extents.{extent_at, AreExtents, HasRoom};
 
 use crate::extents::{Extent, NOWHERE, ROOM, ends_below, ends_west, put_extents};
 use crate::sides::{Reach, add_side_arc, is_separated, reach_of};
@@ -41,14 +41,15 @@ fn extension_in(
     places: &Places,
 ) -> Result<Extension, NoMemory>
     requires room { segment_count bars.now ≤ length room.old }
-    requires few { bars.now.plan.vertices ≤ ROOM }
-    requires few_segments { segment_count bars.now ≤ ROOM }
+    requires few { HasRoom bars.now ROOM }
     requires drawing { IsDrawing bars.now places.now }
     ensures chosen { IfOk result (λ extension.
         IsExtensionOf bars.now places.now extension.choices) }
 {
     let extents = &mut room[..bars.bars() as usize];
-    put_extents(extents, bars, places);
+    let mut xs = [0; ROOM];
+    let mut ys = [0; ROOM];
+    put_extents(extents, &mut xs, &mut ys, bars, places);
     choose_all(alloc, bars, extents)
 }
 

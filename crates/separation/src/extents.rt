@@ -1,14 +1,18 @@
 //! How far segments reach in given places.
 
-ghost use Rattle.std.specs.Prelude.{◌≡◌, ℕ, ◌<◌, ◌≤◌, int_lt, length};
+ghost use Rattle.std.specs.Prelude.{◌≡◌, ℕ, ◌<◌, ◌≤◌, int_lt, IsTrue, length};
 ghost use Rattle.std.specs.List.Sorted.{IsPermutation};
+ghost use Rattle.compact_types.specs.declared.places.Axis.{Axis};
 ghost use Rattle.compact_types.specs.declared.places.Axis.TheVariants as axes;
 ghost use Rattle.compact_types.specs.declared.places.Places.{Places};
 ghost use Rattle.compact_types.specs.Drawings.{HasWays};
 ghost use Rattle.compact_types.specs.Lookups.{along, place};
-ghost use Rattle.bars.specs.Segments.{segment_count, node_of, node_count};
+ghost use Rattle.bars.specs.Segments.{segment_count, node_of, node_count, IsPair};
+ghost use Rattle.separation.specs.inner.Candidates.{IsSeenBefore};
 ghost use Rattle.separation.specs.inner.Extents.{extent_at, AreAtNodes, IsExtent, AreExtents};
 ghost use Rattle.separation.specs.inner.Extents.{BeginInOrder, meet_in_x, meet_in_y, overlap};
+ghost use Rattle.separation.specs.inner.Extents.{turned_along, AreTurned, AreExtentsAlong};
+ghost use Rattle.separation.specs.inner.Extents.{AreInShape, HasRoom};
 
 use bars::Bars;
 use compact_types::{Axis, MOST_VERTICES, Places};
@@ -16,7 +20,8 @@ use compact_types::{Axis, MOST_VERTICES, Places};
 /// Room for all nodes of a graph, and for all segments.
 pub(crate) const ROOM: usize = MOST_VERTICES as usize;
 
-/// A segment, and how far it reaches.
+/// A segment, and how far it reaches. For a sweep from below the extents are turned: then `left`
+/// and `right` are the low and the high end, and the other way round.
 #[derive(Clone, Copy, Debug)]
 pub(crate) struct Extent {
     pub(crate) segment: u32,
@@ -35,27 +40,109 @@ pub(crate) const NOWHERE: Extent = Extent {
     high: 0,
 };
 
-/// Puts at each place the extent of the segment of that number.
-#[tactic(auto, using(crate::proofs::EndLemmas::few_nodes))]
-pub(crate) fn put_extents(extents: &mut [Extent], bars: &Bars, places: &Places)
+/// Whether there is so much room: for all segments, and for the nodes of each graph.
+pub(crate) fn has_room(bars: &Bars, room: u32) -> bool
+    ensures { IsTrue result → HasRoom bars.now room }
+{
+    bars.bars() <= room && bars.columns() <= room && bars.rows() <= room
+}
+
+/// Puts the extents of all segments in the order in which they begin, along the axis along which
+/// they reach farther: there fewer of them overlap.
+pub(crate) fn put_in_order(
+    extents: &mut [Extent],
+    xs: &mut [i64],
+    ys: &mut [i64],
+    bars: &Bars,
+    places: &Places,
+)
     requires one_for_each { length extents.old ≡ segment_count bars.now }
     requires places_fit { length places.now.xy ≡ bars.now.plan.vertices }
-    requires few { bars.now.plan.vertices ≤ ROOM }
+    requires xs { node_count axes.X bars.now ≤ length xs.old }
+    requires ys { node_count axes.Y bars.now ≤ length ys.old }
+    ensures in_shape { AreInShape bars.now extents.new }
+    ensures in_order { BeginInOrder extents.new }
+    ensures seen { (s t : ℕ) → IsPair bars.now s t →
+        IsSeenBefore extents.new (length extents.new) s t }
+    ensures extents { HasWays bars.now places.now →
+        (axis : Axis) × AreExtentsAlong axis bars.now places.now extents.new }
+{
+    put_extents(extents, xs, ys, bars, places);
+    turn_if_higher(extents);
+    order_by_left(extents);
+}
+
+/// Puts at each place the extent of the segment of that number, with room for the coordinates of
+/// the nodes along x and along y.
+pub(crate) fn put_extents(
+    extents: &mut [Extent],
+    xs: &mut [i64],
+    ys: &mut [i64],
+    bars: &Bars,
+    places: &Places,
+)
+    requires one_for_each { length extents.old ≡ segment_count bars.now }
+    requires places_fit { length places.now.xy ≡ bars.now.plan.vertices }
+    requires xs { node_count axes.X bars.now ≤ length xs.old }
+    requires ys { node_count axes.Y bars.now ≤ length ys.old }
     ensures len { length extents.new ≡ length extents.old }
     ensures segment { (s : ℕ) → s < length extents.old → (extent_at extents.new s).segment ≡ s }
     ensures extents { HasWays bars.now places.now → AreExtents bars.now places.now extents.new }
 {
-    let mut xs = [0; ROOM];
-    put_coordinates(&mut xs, bars, places, Axis::X);
-    let mut ys = [0; ROOM];
-    put_coordinates(&mut ys, bars, places, Axis::Y);
+    put_coordinates(xs, bars, places, Axis::X);
+    put_coordinates(ys, bars, places, Axis::Y);
     for s in 0..bars.bars() {
-        extents[s as usize] = extent_of(bars, &xs, &ys, s);
+        extents[s as usize] = extent_of(bars, xs, ys, s);
     }
 }
 
-/// Orders the extents from west to east by where they begin.
-pub(crate) fn order_by_left(extents: &mut [Extent])
+/// Turns the extents where they reach farther along y than along x.
+fn turn_if_higher(extents: &mut [Extent])
+    ensures len { length extents.new ≡ length extents.old }
+    ensures turned { (axis : Axis) × AreTurned axis extents.old extents.new }
+{
+    if reach_higher(extents) {
+        turn(extents);
+    }
+}
+
+/// Whether the extents reach farther along y than along x. Either answer serves: it only spares
+/// comparisons.
+fn reach_higher(extents: &[Extent]) -> bool {
+    let mut right = 0;
+    let mut high = 0;
+    for extent in extents {
+        right = extent.right.max(right);
+        high = extent.high.max(high);
+    }
+    right < high
+}
+
+/// Turns the extents: their beginnings and ends along x and along y change places.
+fn turn(extents: &mut [Extent])
+    ensures len { length extents.new ≡ length extents.old }
+    ensures turned { AreTurned axes.Y extents.old extents.new }
+{
+    for k in 0..extents.len() {
+        extents[k] = turned(extents[k]);
+    }
+}
+
+/// The extent with the axes in each other's place.
+fn turned(extent: Extent) -> Extent
+    ensures { result ≡ turned_along axes.Y extent }
+{
+    Extent {
+        segment: extent.segment,
+        left: extent.low,
+        right: extent.high,
+        low: extent.left,
+        high: extent.right,
+    }
+}
+
+/// Orders the extents by where they begin.
+fn order_by_left(extents: &mut [Extent])
     ensures permutation { IsPermutation extents.old extents.new }
     ensures len { length extents.new ≡ length extents.old }
     ensures in_order { BeginInOrder extents.new }

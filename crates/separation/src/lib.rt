@@ -11,6 +11,7 @@ mod complete;
 mod extension;
 mod extents;
 mod law;
+mod sharing;
 mod sides;
 #[cfg(test)]
 mod tests;
@@ -19,4 +20,5 @@ pub use branching::branch_pair;
 pub use complete::is_complete;
 pub use extension::extension_of;
 pub use law::{complete_solutions_are_drawings, drawings_are_apart, drawings_take_a_side};
+pub use sharing::sharing_pair;
 pub use sides::{Reach, Sides, is_separated, open_sides, reach_of};

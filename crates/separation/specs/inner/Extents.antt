@@ -1,12 +1,12 @@
 -- How far segments reach in given places.
-use Rattle.std.specs.Prelude.{◌≡◌, ℕ, ◌<◌, pos, ℤ, ◌≤ℤ◌, Bool, ◌&&◌, int_le, List, length, slice_index_or}
+use Rattle.std.specs.Prelude.{◌≡◌, ℕ, ◌<◌, ◌≤◌, pos, ℤ, ◌≤ℤ◌, Bool, ◌&&◌, int_le, List, length, slice_index_or}
 use Rattle.compact_types.specs.declared.places.Axis.{Axis}
 use Rattle.compact_types.specs.declared.places.Axis.TheVariants.{X, Y}
 use Rattle.compact_types.specs.declared.places.Places.{Places}
 use Rattle.compact_types.specs.declared.plan.Shape.{Shape}
 use Rattle.compact_types.specs.Drawings.{HasWays}
 use Rattle.compact_types.specs.Lookups.{along, place}
-use Rattle.bars.specs.Segments.{segment_count, node_of, low_node, high_node}
+use Rattle.bars.specs.Segments.{segment_count, node_of, node_count, low_node, high_node}
 use Rattle.separation.specs.declared.extents.Extent.{Extent}
 
 -- the extent that stands for one that is not there
@@ -40,6 +40,29 @@ pub record IsExtent (shape : Shape) (places : Places) (extent : Extent) : Type 0
 
 abbrev pub AreExtents : Shape → Places → List Extent → Type 0
 AreExtents shape places extents = (k : ℕ) → k < length extents → IsExtent shape places (extent_at extents k)
+
+-- the extent as its axis takes it: the two axes change places where this is Y
+abbrev pub turned_along : Axis → Extent → Extent
+turned_along X e = e
+turned_along Y e = record { segment = e.segment; left = e.low; right = e.high; low = e.left; high = e.right }
+
+-- the same of all extents, each at its place
+abbrev pub AreTurned : Axis → List Extent → List Extent → Type 0
+AreTurned axis before after =
+    (k : ℕ) → k < length before → extent_at after k ≡ turned_along axis (extent_at before k)
+
+-- the extent, once it is turned as the axis takes it, is that of its segment
+abbrev pub IsExtentAlong : Axis → Shape → Places → Extent → Type 0
+IsExtentAlong axis shape places extent = IsExtent shape places (turned_along axis extent)
+
+abbrev pub AreExtentsAlong : Axis → Shape → Places → List Extent → Type 0
+AreExtentsAlong axis shape places extents =
+    (k : ℕ) → k < length extents → IsExtentAlong axis shape places (extent_at extents k)
+
+-- there is room for all segments, and for the nodes of each graph
+pub record HasRoom (shape : Shape) (room : ℕ) : Type 0 where
+  pub segments : segment_count shape ≤ room
+  pub nodes : (axis : Axis) → node_count axis shape ≤ room
 
 -- the segments of the extents are there
 abbrev pub AreInShape : Shape → List Extent → Type 0

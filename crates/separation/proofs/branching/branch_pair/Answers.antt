@@ -1,9 +1,6 @@
-use Rattle.std.proofs.Common.{arith}
-use Rattle.bars.proofs.Laws.{few_segments}
+use Rattle.separation.proofs.EndLemmas.{room_for_all}
 use Rattle.separation.proofs.branching.branch_pair.Goals as goal
 
-pub pair_in-requires-clause-room : goal.pair_in-requires-clause-room
-pair_in-requires-clause-room c =
-    let few = few_segments c.args.bars.now c.shape-small.ensures.sound.drawable in
-    let small = c.shape-small.ensures.sound.few_vertices in
-    omega (arith, few, small)
+pub pair_in-requires-2-clause-room : goal.pair_in-requires-2-clause-room
+pair_in-requires-2-clause-room c =
+    room_for_all c.args.bars.now 1000 c.shape-small.ensures.sound.drawable c.shape-small.ensures.sound.few_vertices

@@ -1,4 +1,4 @@
-use Rattle.std.proofs.Common.{◌≡◌, ◌<◌, ◌≤◌, ◌+◌, ℕ, ◌⊎◌, inl, inr, List, length, true, false, subst, sym, refl, ◌∙◌, arith}
+use Rattle.std.proofs.Common.{◌<◌, ◌+◌, ℕ, List, subst, sym, refl, arith}
 use Rattle.std.proofs.lemmas.Bool.{both_ways}
 use Rattle.compact_types.specs.declared.search.Choice.{Choice}
 use Rattle.compact_types.specs.declared.plan.Shape.{Shape}

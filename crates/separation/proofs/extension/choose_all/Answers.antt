@@ -1,4 +1,4 @@
-use Rattle.std.proofs.Common.{◌≡◌, ◌<◌, ◌≤◌, ◌+◌, ℕ, refl, arith}
+use Rattle.std.proofs.Common.{◌+◌, refl, arith}
 use Rattle.separation.proofs.ChoosingLemmas.{next_row, extension_from}
 use Rattle.separation.proofs.extension.choose_all.Goals as goal
 

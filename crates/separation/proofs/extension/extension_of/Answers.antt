@@ -2,6 +2,7 @@ use Rattle.std.proofs.Common.{◌≤◌, arith}
 use Rattle.compact_types.specs.declared.search.Extension.{Extension}
 use Rattle.bars.specs.Segments.{segment_count}
 use Rattle.bars.proofs.Laws.{few_segments}
+use Rattle.separation.proofs.EndLemmas.{room_for_all}
 use Rattle.separation.proofs.ChoosingLemmas.{if_ok_more, extension_fits, extension_complete, extension_solved}
 use Rattle.separation.proofs.extension.extension_of.Goals as goal
 
@@ -11,11 +12,9 @@ extension_in-requires-clause-room c =
     let small = c.shape-small.ensures.sound.few_vertices in
     omega (arith, few, small)
 
-pub extension_in-requires-clause-few_segments : goal.extension_in-requires-clause-few_segments
-extension_in-requires-clause-few_segments c =
-    let few = few_segments c.args.bars.now c.shape-small.ensures.sound.drawable in
-    let small = c.shape-small.ensures.sound.few_vertices in
-    omega (arith, few, small)
+pub extension_in-requires-clause-few : goal.extension_in-requires-clause-few
+extension_in-requires-clause-few c =
+    room_for_all c.args.bars.now 1000 c.shape-small.ensures.sound.drawable c.shape-small.ensures.sound.few_vertices
 
 pub returns-clause-fits : goal.returns-clause-fits
 returns-clause-fits c =

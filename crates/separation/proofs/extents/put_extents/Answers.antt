@@ -1,21 +1,14 @@
 use Rattle.std.proofs.Common.{refl, arith}
-use Rattle.compact_types.specs.declared.places.Axis.TheVariants as axes
-use Rattle.separation.proofs.EndLemmas.{few_nodes, put_one_more}
+use Rattle.separation.proofs.EndLemmas.{put_one_more}
 use Rattle.separation.proofs.extents.put_extents.Goals as goal
-
-pub put_coordinates-requires-clause-room : goal.put_coordinates-requires-clause-room
-put_coordinates-requires-clause-room c = few_nodes axes.X c.args.bars.now 1000 c.requires.few
-
-pub put_coordinates-requires-2-clause-room : goal.put_coordinates-requires-2-clause-room
-put_coordinates-requires-2-clause-room c = few_nodes axes.Y c.args.bars.now 1000 c.requires.few
 
 pub extent_of-requires-clause-xs : goal.extent_of-requires-clause-xs
 extent_of-requires-clause-xs c =
-    let few = few_nodes axes.X c.args.bars.now 1000 c.requires.few in let len = c.put_coordinates.ensures.len in omega (arith, few, len)
+    let few = c.requires.xs in let len = c.put_coordinates.ensures.len in omega (arith, few, len)
 
 pub extent_of-requires-clause-ys : goal.extent_of-requires-clause-ys
 extent_of-requires-clause-ys c =
-    let few = few_nodes axes.Y c.args.bars.now 1000 c.requires.few in let len = c.put_coordinates-2.ensures.len in omega (arith, few, len)
+    let few = c.requires.ys in let len = c.put_coordinates-2.ensures.len in omega (arith, few, len)
 
 pub loop-s-init : goal.loop-s-init
 loop-s-init c = record { segment = λ k none. absurd (omega arith); extent = λ ways k none. absurd (omega arith) }
