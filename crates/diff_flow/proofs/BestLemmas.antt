@@ -177,53 +177,12 @@ module _ (nodes : ℕ) (arcs : List Arc) (steps : List Step) (given amounts : Li
       tight = ((λ v. pos (h v)), is_tight);
     }
 
--- a flow that has no tight numbers has a lesser bound than one that has
-pub best_is_higher : (nodes : ℕ) (arcs : List Arc) (steps : List Step) (given best : List ℕ) → EndsAreNodes nodes arcs → AreStepsOf arcs steps →
-    Balances nodes arcs given → NoneMeet steps given → IsBestByNumbers nodes arcs best → (bound_of arcs given +ℤ pos 1) ≤ℤ bound_of arcs best
-best_is_higher nodes arcs steps given best ends are balances none is =
-    let p = is.tight.0 in
-    let tight = is.tight.1 in
-    let below = bound_below nodes arcs given p ends balances tight.solution in
-    let equal = equal_where_tight nodes arcs best p ends is.balances tight.tight in
-    strict (bound_of arcs given) (bound_of arcs best) (omega (arith, ints, below, equal))
-    (λ same. none_tight nodes arcs steps given ends are none p (record {
-      from_zero = tight.from_zero;
-      solution = tight.solution;
-      tight = tight_where_equal nodes arcs given p ends balances tight.solution (same ∙ equal);
-    }))
-  where
-    strict : (a b : ℤ) → a ≤ℤ b → (a ≡ b → ⊥) → (a +ℤ pos 1) ≤ℤ b
-    strict a b le apart = omega (arith, ints, le, apart)
-
 -- a flow whose bound was raised was not best
 pub raised_not_best : (nodes : ℕ) (arcs : List Arc) (amounts amounts' : List ℕ) (by : ℤ) → IsRaised nodes arcs amounts amounts' by →
     IsBestFlow nodes arcs amounts → ⊥
 raised_not_best nodes arcs amounts amounts' by raised best =
     let most = best.best amounts' raised.balances in
     omega (arith, ints, most, raised.some, raised.rise)
-
--- least numbers that meet the steps prove the flow best
-pub shown_best : (nodes nodes' limit : ℕ) (arcs : List Arc) (steps : List Step) (amounts amounts' numbers : List ℕ) → EndsAreNodes nodes arcs →
-    AreArcsWithin arcs → AreStepsOf arcs steps → Balances nodes arcs amounts → amounts' ≡ amounts →
-    AreLeastMet nodes' steps amounts' limit numbers → IsShownBest nodes arcs amounts amounts
-shown_best nodes nodes' limit arcs steps amounts amounts' numbers ends within are balances same least =
-    let met = subst (λ (xs : List ℕ). AreMet steps xs (height numbers)) same least.met in
-    let tight = tight_where_met nodes arcs steps amounts ends are within (height numbers) met in
-    record {
-      same = refl;
-      best = best_by_tight nodes arcs amounts (λ v. pos (height numbers v)) ends balances tight.solution tight.tight;
-      tight = ((λ v. pos (height numbers v)), tight);
-    }
-
--- where the graph has a solution, numbers meet the steps along its arcs
-pub some_meet : (nodes : ℕ) (arcs : List Arc) (steps : List Step) (p : ℕ → ℤ) → EndsAreNodes nodes arcs → AreStepsOf arcs steps →
-    IsSolution arcs p → ((v : ℕ) → pos 0 ≤ℤ p v) → NoneMeet steps (replicate {A = ℕ} (length arcs) 0) → ⊥
-some_meet nodes arcs steps p ends are solution from_zero none =
-    none_tight nodes arcs steps (replicate {A = ℕ} (length arcs) 0) ends are none p (record {
-      from_zero = λ v inside. from_zero v;
-      solution = solution;
-      tight = λ i inside some. absurd (omega (arith, some, zero_at (length arcs) i));
-    })
 
 times_nat : (x k : ℕ) → pos x *ℤ pos k ≡ pos (x * k)
 times_nat zero k = omega (arith, ints, zero-*ℤ (pos k))

@@ -1,11 +1,12 @@
 -- Numbers that are raised step by step.
-use Rattle.std.proofs.Common.{◌≡◌, ℕ, suc, ◌+◌, ◌-◌, ◌*◌, ◌<◌, ◌≤◌, inl, inr, List, [], ◌∷◌, ◌++◌, length, get_or, set, drop, replicate, refl, sym, ap, subst, ◌∙◌, arith, sum}
+use Rattle.std.proofs.Common.{◌≡◌, ℕ, suc, ◌+◌, ◌-◌, ◌*◌, ◌<◌, ◌≤◌, ◌⊎◌, inl, inr, List, [], ◌∷◌, ◌++◌, length, get_or, set, drop, replicate, refl, sym, ap, subst, ◌∙◌, arith, sum}
 use Rattle.std.proofs.lemmas.Bool.{cases_eq, cases_lt}
 use Rattle.std.proofs.lemmas.List.{length-set, get_or-replicate, length-replicate, length-drop, get_or-drop, length_push}
 use Rattle.std.proofs.lemmas.List.Sums.{sum_by-set}
 use Rattle.diff_flow.specs.declared.steps.Step.{Step}
-use Rattle.diff_flow.specs.inner.Steps.{step_at, AreStepsWithin, AreRows, IsOpen, Meets, AreMet}
-use Rattle.diff_flow.specs.inner.Numbers.{height, IsIn, AreLow, NoneMeet, IsLift, AreListed, Waits, Rises, AreLate, NoneLate, AreLeastMet}
+use Rattle.shape_graphs.specs.Flows.{amount_at}
+use Rattle.diff_flow.specs.inner.Steps.{step_at, AreStepsWithin, AreRows, ArePaired, IsOpen, Meets, AreMet}
+use Rattle.diff_flow.specs.inner.Numbers.{height, IsIn, AreLow, NoneMeet, IsLift, AreListed, Waits, Rises, AreLate, NoneLate, AreFrom, AreLeastMet}
 use Rattle.diff_flow.proofs.Gaps.{closed, closed_most, closed_keeps}
 use Rattle.diff_flow.proofs.SetLemmas.{by_write, by_push, in_rest, in_last, in_pushed}
 
@@ -244,23 +245,108 @@ rises_done nodes arcs reach steps amounts limit numbers waits queue all none ris
   ];
 }
 
--- at the beginning all nodes wait
-pub rises_first : (nodes arcs reach : ℕ) (steps : List Step) (amounts : List ℕ) (limit : ℕ) (numbers queue : List ℕ) →
-    AreStepsWithin nodes arcs reach steps → AreLow nodes steps amounts limit numbers →
-    length queue ≡ nodes → ((v : ℕ) → v < nodes → get_or queue v 0 ≡ v) →
-    Rises nodes steps amounts limit numbers (replicate {A = ℕ} nodes 1) queue NoneLate
-rises_first nodes arcs reach steps amounts limit numbers queue all low count each = record {
-  low = low;
-  lists = record {
-    flags = length-replicate {A = ℕ} nodes 1;
-    listed = λ v v_in some. (v, omega (arith, count), each v v_in);
-    nodes_only = λ k k_in. let is = each k (omega (arith, count)) in omega (arith, is, count);
-  };
-  met = λ j j_in opens. inl (one_at (step_at steps j).from (all j j_in).from);
+-- numbers that are low for the steps along the arcs are low for more steps
+pub low_more : (nodes arcs : ℕ) (steps : List Step) (amounts : List ℕ) (limit : ℕ) (numbers : List ℕ) → ArePaired arcs steps →
+    AreLow nodes steps [] limit numbers → AreLow nodes steps amounts limit numbers
+low_more nodes arcs steps amounts limit numbers paired low = record {
+  one_for_each = low.one_for_each;
+  inside = low.inside;
+  below = λ others met. low.below others (λ k inside opens. met k inside (still k opens));
 }
   where
-    one_at : (v : ℕ) → v < nodes → 0 < get_or (replicate {A = ℕ} nodes 1) v 0
-    one_at v inside = let e = get_or-replicate {A = ℕ} nodes v 1 0 inside in omega (arith, e)
+    still : (k : ℕ) → IsOpen [] (step_at steps k) → IsOpen amounts (step_at steps k)
+    still k opens = let none : amount_at [] (step_at steps k).arc ≡ 0 = refl in omega (arith, opens, none)
+
+-- at the beginning only steps against arcs are not met
+pub rises_first : (nodes arcs : ℕ) (steps : List Step) (amounts : List ℕ) (limit : ℕ) (walks waits queue : List ℕ) →
+    ArePaired arcs steps → AreLeastMet nodes steps [] limit walks → waits ≡ replicate {A = ℕ} nodes 0 → queue ≡ [] →
+    Rises nodes steps amounts limit walks waits queue (AreFrom (arcs + 0))
+rises_first nodes arcs steps amounts limit walks waits queue paired least flags none = record {
+  low = low_more nodes arcs steps amounts limit walks paired least.low;
+  lists = record {
+    flags = ap length flags ∙ length-replicate {A = ℕ} nodes 0;
+    listed = λ v v_in some.
+        let zero_at = get_or-replicate {A = ℕ} nodes v 0 0 v_in in
+        let flag : get_or waits v 0 ≡ get_or (replicate {A = ℕ} nodes 0) v 0 = ap (λ xs. get_or xs v 0) flags in
+        absurd (omega (arith, some, flag, zero_at));
+    nodes_only = λ k k_in. absurd (omega (arith, k_in, ap length none));
+  };
+  met = λ k k_in opens. elim (cases_lt k arcs) [
+    | inl front ↦ inr (inl (least.met k k_in (omega (arith, paired.up k front))))
+    | inr back ↦ inr (inr (omega arith))
+  ];
+}
+
+-- the step against one arc more is met, or its node waits
+pub rises_looked : (nodes arcs : ℕ) (steps : List Step) (amounts : List ℕ) (limit : ℕ) (walks waits queue waits' queue' : List ℕ) (i : ℕ) →
+    ((v : ℕ) → 0 < get_or waits v 0 → 0 < get_or waits' v 0) → AreListed nodes waits' queue' →
+    (IsOpen amounts (step_at steps (arcs + i)) →
+    (0 < get_or waits' (step_at steps (arcs + i)).from 0) ⊎ Meets (height walks) (step_at steps (arcs + i))) →
+    Rises nodes steps amounts limit walks waits queue (AreFrom (arcs + i)) →
+    Rises nodes steps amounts limit walks waits' queue' (AreFrom (arcs + (i + 1)))
+rises_looked nodes arcs steps amounts limit walks waits queue waits' queue' i still lists here rises = record {
+  low = rises.low;
+  lists = lists;
+  met = λ k k_in opens. elim (rises.met k k_in opens) [
+    | inl waits_now ↦ inl (still _ waits_now)
+    | inr (inl meets) ↦ inr (inl meets)
+    | inr (inr late) ↦ elim (cases_lt (arcs + i) k) [
+      | inl later ↦ inr (inr (omega (arith, later)))
+      | inr now ↦
+          let same : arcs + i ≡ k = omega (arith, late, now) in
+          elim (subst (λ j. IsOpen amounts (step_at steps j) → (0 < get_or waits' (step_at steps j).from 0) ⊎ Meets (height walks) (step_at steps j))
+          same here opens) [
+            | inl waits_here ↦ inl waits_here
+            | inr meets ↦ inr (inl meets)
+          ]
+    ]
+  ];
+}
+
+-- where the arc is slack its node waits now
+pub looked_slack : (nodes arcs : ℕ) (steps : List Step) (amounts : List ℕ) (limit : ℕ) (walks waits queue waits' queue' : List ℕ) (i : ℕ) (step : Step) →
+    ArePaired arcs steps → i < arcs → step ≡ step_at steps i → Waits nodes step.to waits queue waits' queue' →
+    Rises nodes steps amounts limit walks waits queue (AreFrom (arcs + i)) →
+    Rises nodes steps amounts limit walks waits' queue' (AreFrom (arcs + (i + 1)))
+looked_slack nodes arcs steps amounts limit walks waits queue waits' queue' i step paired inside is more rises =
+    rises_looked nodes arcs steps amounts limit walks waits queue waits' queue' i more.still more.lists
+    (λ opens. let back = paired.back i inside in
+    let node : step.to ≡ (step_at steps (arcs + i)).from = ap (λ (s : Step). s.to) is ∙ sym back.from in
+    inl (subst (λ v. 0 < get_or waits' v 0) node more.here)) rises
+
+-- where it is not slack the step against it is met
+pub looked_just : (nodes arcs : ℕ) (steps : List Step) (amounts : List ℕ) (limit : ℕ) (walks waits queue : List ℕ) (i : ℕ) (step : Step) →
+    ArePaired arcs steps → i < arcs → step ≡ step_at steps i →
+    (0 < amount_at amounts i → height walks step.from + step.up < height walks step.to → ⊥) →
+    Rises nodes steps amounts limit walks waits queue (AreFrom (arcs + i)) →
+    Rises nodes steps amounts limit walks waits queue (AreFrom (arcs + (i + 1)))
+looked_just nodes arcs steps amounts limit walks waits queue i step paired inside is just rises =
+    rises_looked nodes arcs steps amounts limit walks waits queue waits queue i (λ v some. some) rises.lists
+    (λ opens.
+    let back = paired.back i inside in
+    let number : (step_at steps (arcs + i)).arc ≡ i = back.arc ∙ paired.number i inside in
+    let there : 0 < amount_at amounts (step_at steps (arcs + i)).arc = omega (arith, opens, back.up) in
+    let some : 0 < amount_at amounts i = subst (λ j. 0 < amount_at amounts j) number there in
+    let from : height walks (step_at steps (arcs + i)).from ≡ height walks (step_at steps i).to = ap (height walks) back.from in
+    let to : height walks (step_at steps (arcs + i)).to ≡ height walks (step_at steps i).from = ap (height walks) back.to in
+    inr (met_back (subst (λ (s : Step). height walks s.from + s.up < height walks s.to → ⊥) is (just some)) from to back.up back.down)) rises
+  where
+    met_back : {a b u c d v w : ℕ} → (a + u < b → ⊥) → c ≡ b → d ≡ a → v ≡ 0 → w ≡ u → c + v ≤ d + w
+    met_back apart from to up down = omega (arith, apart, from, to, up, down)
+
+-- all steps were looked at
+pub rises_begun : (nodes arcs : ℕ) (steps : List Step) (amounts : List ℕ) (limit : ℕ) (walks waits queue : List ℕ) (count : ℕ) →
+    ArePaired arcs steps → count ≡ arcs → Rises nodes steps amounts limit walks waits queue (AreFrom (arcs + count)) →
+    Rises nodes steps amounts limit walks waits queue NoneLate
+rises_begun nodes arcs steps amounts limit walks waits queue count paired all rises = record {
+  low = rises.low;
+  lists = rises.lists;
+  met = λ k k_in opens. elim (rises.met k k_in opens) [
+    | inl waits_now ↦ inl waits_now
+    | inr (inl meets) ↦ inr (inl meets)
+    | inr (inr late) ↦ absurd (omega (arith, late, all, k_in, paired.two_for_each))
+  ];
+}
 
 -- a node more in the queue
 pub waits_pushed : (node : ℕ) (waits queue : List ℕ) → node < length waits → AreListed (length waits) waits queue →

@@ -16,5 +16,7 @@ pub mod SetLemmas
 pub mod StepLemmas
 pub mod TreeLemmas
 pub mod LabelLemmas
+pub mod WalkLemmas
+pub mod BetterLemmas
 pub mod TightLemmas
 pub mod Laws

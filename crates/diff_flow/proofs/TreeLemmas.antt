@@ -1,16 +1,16 @@
 -- Reached nodes, one more of them, and the steps that were passed.
-use Rattle.std.proofs.Common.{◌≡◌, ℕ, ltb, ◌+◌, ◌-◌, ◌<◌, ◌≤◌, inl, inr, List, [], ◌∷◌, ◌++◌, length, get_or, set, refl, sym, ap, subst, ◌∙◌, arith, min, Bool, true, false, replicate}
+use Rattle.std.proofs.Common.{◌≡◌, ℕ, ltb, ◌+◌, ◌-◌, ◌<◌, ◌≤◌, inl, inr, List, [], ◌∷◌, ◌++◌, length, get_or, set, refl, sym, ap, subst, ◌∙◌, arith, min, Bool, true, false, ◌⊎◌}
 use Rattle.std.proofs.Math.Nat.{min-eq_left, min-le_left}
-use Rattle.std.specs.Prelude.{slice_index, MatchBool}
+use Rattle.std.specs.Prelude.{slice_index, sum_by, MatchBool}
 use Rattle.std.proofs.lemmas.Bool.{cases_eq, cases_lt, lt-ltb, le-ltb, false≢true}
-use Rattle.std.proofs.lemmas.List.{length-set, get_or_append_left, get_or_push, length_push, get_or-replicate, length-replicate, get_or_read}
-use Rattle.std.proofs.lemmas.List.Folds.{sum_by-replicate}
+use Rattle.std.proofs.lemmas.List.{length-set, get_or_append_left, get_or_push, length_push, get_or_read, get_or_default, get_or_past}
 use Rattle.std.proofs.lemmas.List.Sums.{sum_by-set, sum_by-le}
 use Rattle.shape_graphs.specs.Flows.{amount_at}
 use Rattle.diff_flow.specs.declared.steps.Step.{Step}
 use Rattle.diff_flow.specs.declared.search.Reached.{Reached}
 use Rattle.diff_flow.specs.inner.Steps.{step_at, AreStepsWithin, AreRows}
-use Rattle.diff_flow.specs.inner.Search.{no_entry, entry_at, step_of, IsPassable, IsRoom, IsReached, IsTree, Grows, IsEntered, NoneLacks, IsFound, Searches, IsPassed, ArePassedFrom, ArePassed}
+use Rattle.diff_flow.specs.inner.Numbers.{height}
+use Rattle.diff_flow.specs.inner.Search.{no_entry, entry_at, step_of, IsPassable, IsRoom, IsReached, IsTree, ArePlaced, IsBlank, Raises, Grows, IsEntered, NoneLacks, IsFound, Searches, IsPassed, ArePassedFrom, ArePassed}
 use Rattle.diff_flow.proofs.SetLemmas.{by_write}
 
 -- an entry of a longer list, by cases
@@ -267,32 +267,146 @@ fresh_end steps k step places read is to_in reads none =
     subst (λ (s : Step). slice_index places s.to ≡ 0) is (omega (arith, at, none))
 
 -- the tree of one node
-module _ (nodes : ℕ) (steps : List Step) (amounts numbers : List ℕ) (start most : ℕ) (entry : Reached) (inside : start < nodes) (some : 0 < most)
-    (node : entry.node ≡ start) (room : entry.room ≡ most) where
-  zero_at : (v : ℕ) → v < nodes → get_or (replicate {A = ℕ} nodes 0) v 0 ≡ 0
-  zero_at v v_in = get_or-replicate {A = ℕ} nodes v 0 0 v_in
-
-  start_in : start < length (replicate {A = ℕ} nodes 0)
-  start_in = omega (arith, inside, length-replicate {A = ℕ} nodes 0)
+module _ (nodes : ℕ) (steps : List Step) (amounts numbers : List ℕ) (start most : ℕ) (entry : Reached) (tree : List Reached) (places : List ℕ)
+    (inside : start < nodes) (some : 0 < most) (node : entry.node ≡ start) (room : entry.room ≡ most) (blank : IsBlank nodes tree places) where
+  start_in : start < length places
+  start_in = omega (arith, inside, blank.one_for_each)
 
   only : (j : ℕ) → j < length (entry ∷ []) → 0 ≡ j
   only j j_in = omega (arith, j_in)
 
-  pub planted : IsTree nodes steps amounts numbers (entry ∷ []) (set (replicate {A = ℕ} nodes 0) start 1)
-  planted = record {
+  no_count : sum_by (λ x. min 1 x) places ≡ 0
+  no_count =
+      let most_sum = sum_by-le (λ x. min 1 x) 0 places (λ j d j_in.
+      subst (λ x. min 1 x ≤ 0) (get_or_default places j 0 d j_in) (omega (arith, min_none _ (blank.zeros j)))) in
+      omega (arith, most_sum)
+
+  planted_one : IsTree nodes steps amounts numbers (entry ∷ []) (set places start 1)
+  planted_one = record {
     some = omega arith;
     inside = λ j j_in. subst (λ i. (entry_at (entry ∷ []) i).node < nodes) (only j j_in) (omega (arith, node, inside));
     rooms = λ j j_in. subst (λ i. 0 < (entry_at (entry ∷ []) i).room) (only j j_in) (omega (arith, room, some));
     most = λ j j_in. subst (λ i. (entry_at (entry ∷ []) i).room ≤ (entry_at (entry ∷ []) 0).room) (only j j_in) (omega arith);
     each = λ j behind j_in. absurd (omega (arith, behind, only j j_in));
-    one_for_each = length-set (replicate {A = ℕ} nodes 0) start 1 ∙ length-replicate {A = ℕ} nodes 0;
-    at_place = λ j j_in. subst (λ i. slice_index (set (replicate {A = ℕ} nodes 0) start 1) (entry_at (entry ∷ []) i).node ≡ i + 1) (only j j_in)
-        (by_write (λ x. x ≡ 0 + 1) (replicate {A = ℕ} nodes 0) start entry.node 1 start_in (λ _. refl) (λ apart. absurd (apart node)));
-    within = λ v v_in. by_write (λ x. x ≤ length (entry ∷ [])) (replicate {A = ℕ} nodes 0) start v 1 start_in (λ _. omega arith)
-        (λ _. omega (arith, zero_at v v_in));
-    placed = λ v v_in. by_write (λ x. 0 < x → (entry_at (entry ∷ []) (x - 1)).node ≡ v) (replicate {A = ℕ} nodes 0) start v 1 start_in
-        (λ same _. node ∙ sym same) (λ _ some. absurd (omega (arith, some, zero_at v v_in)));
-    count = let one = sum_by-set (λ x. min 1 x) (replicate {A = ℕ} nodes 0) start 1 0 start_in in
-        let none = sum_by-replicate (λ x. min 1 x) nodes 0 in
-        omega (arith, one, none, min_some 0, min_none _ (zero_at start inside));
+    one_for_each = length-set places start 1 ∙ blank.one_for_each;
+    at_place = λ j j_in. subst (λ i. slice_index (set places start 1) (entry_at (entry ∷ []) i).node ≡ i + 1) (only j j_in)
+        (by_write (λ x. x ≡ 0 + 1) places start entry.node 1 start_in (λ _. refl) (λ apart. absurd (apart node)));
+    within = λ v v_in. by_write (λ x. x ≤ length (entry ∷ [])) places start v 1 start_in (λ _. omega arith)
+        (λ _. omega (arith, blank.zeros v));
+    placed = λ v v_in. by_write (λ x. 0 < x → (entry_at (entry ∷ []) (x - 1)).node ≡ v) places start v 1 start_in
+        (λ same _. node ∙ sym same) (λ _ more. absurd (omega (arith, more, blank.zeros v)));
+    count = let one = sum_by-set (λ x. min 1 x) places start 1 0 start_in in
+        omega (arith, one, no_count, min_some 0, min_none _ (blank.zeros start));
   }
+
+  pub planted : IsTree nodes steps amounts numbers (tree ++ entry ∷ []) (set places start 1)
+  planted = subst (λ (front : List Reached). IsTree nodes steps amounts numbers (front ++ entry ∷ []) (set places start 1)) (sym blank.none) planted_one
+
+  pub planted_places : (v : ℕ) → 0 < slice_index (set places start 1) v → v ≡ start
+  planted_places v = by_write (λ x. 0 < x → v ≡ start) places start v 1 start_in (λ same _. same)
+      (λ _ more. absurd (omega (arith, more, blank.zeros v)))
+
+-- the places of a tree
+pub tree_placed : (nodes : ℕ) (steps : List Step) (amounts numbers : List ℕ) (tree : List Reached) (places : List ℕ) →
+    IsTree nodes steps amounts numbers tree places → ArePlaced nodes tree places
+tree_placed nodes steps amounts numbers tree places is = record {
+  one_for_each = is.one_for_each;
+  inside = is.inside;
+  at_place = is.at_place;
+  within = is.within;
+  placed = is.placed;
+}
+
+-- the first so many entries are taken out of the places
+pub record AreCleared (nodes : ℕ) (tree : List Reached) (places places' : List ℕ) (at : ℕ) : Type 0 where
+  pub one_for_each : length places' ≡ nodes
+  pub gone : (j : ℕ) → j < at → slice_index places' (entry_at tree j).node ≡ 0
+  pub rest : (v : ℕ) → (slice_index places' v ≡ 0) ⊎ (slice_index places' v ≡ slice_index places v)
+
+pub cleared_first : (nodes : ℕ) (tree : List Reached) (places : List ℕ) → ArePlaced nodes tree places → AreCleared nodes tree places places 0
+cleared_first nodes tree places placed = record {
+  one_for_each = placed.one_for_each;
+  gone = λ j before. absurd (omega arith);
+  rest = λ v. inr refl;
+}
+
+pub cleared_more : (nodes : ℕ) (tree : List Reached) (places places' : List ℕ) (at node : ℕ) → ArePlaced nodes tree places → at < length tree →
+    node ≡ (entry_at tree at).node → AreCleared nodes tree places places' at → AreCleared nodes tree places (set places' node 0) (at + 1)
+cleared_more nodes tree places places' at node placed inside is cleared =
+    let node_in : node < length places' = omega (arith, is, placed.inside at inside, cleared.one_for_each) in
+    record {
+      one_for_each = length-set places' node 0 ∙ cleared.one_for_each;
+      gone = λ j before. by_write (λ x. x ≡ 0) places' node (entry_at tree j).node 0 node_in (λ _. refl)
+          (λ apart. elim (cases_lt j at) [
+            | inl front ↦ cleared.gone j front
+            | inr back ↦ let here : j ≡ at = omega arith in absurd (apart (ap (λ i. (entry_at tree i).node) here ∙ sym is))
+          ]);
+      rest = λ v. by_write (λ x. (x ≡ 0) ⊎ (x ≡ slice_index places v)) places' node v 0 node_in (λ _. inl refl) (λ _. cleared.rest v);
+    }
+
+pub cleared_all : (nodes : ℕ) (tree : List Reached) (places places' : List ℕ) (at : ℕ) → ArePlaced nodes tree places → at ≡ length tree →
+    AreCleared nodes tree places places' at → (v : ℕ) → slice_index places' v ≡ 0
+cleared_all nodes tree places places' at placed all cleared v =
+    elim (cases_lt v nodes) [
+      | inl inside ↦ elim (cleared.rest v) [
+        | inl none ↦ none
+        | inr same ↦ elim (cases_lt 0 (slice_index places v)) [
+          | inl some ↦
+              let is = placed.placed v inside some in
+              subst (λ w. slice_index places' w ≡ 0) is
+              (cleared.gone (slice_index places v - 1) (omega (arith, some, all, placed.within v inside)))
+          | inr none ↦ omega (arith, same, none)
+        ]
+      ]
+      | inr beyond ↦ get_or_past places' v 0 (omega (arith, beyond, cleared.one_for_each))
+    ]
+
+-- the nodes of the first so many entries are raised
+pub record AreRaised (places numbers numbers' : List ℕ) (by at : ℕ) : Type 0 where
+  pub one_for_each : length numbers' ≡ length numbers
+  pub raised : (v : ℕ) → v < length numbers → 0 < slice_index places v → slice_index places v ≤ at → height numbers' v ≡ height numbers v + by
+  pub kept : (v : ℕ) → v < length numbers → slice_index places v ≡ 0 → height numbers' v ≡ height numbers v
+  pub later : (v : ℕ) → v < length numbers → at < slice_index places v → height numbers' v ≡ height numbers v
+
+pub raised_first : (places numbers : List ℕ) (by : ℕ) → AreRaised places numbers numbers by 0
+raised_first places numbers by = record {
+  one_for_each = refl;
+  raised = λ v inside some most. absurd (omega arith);
+  kept = λ v inside none. refl;
+  later = λ v inside more. refl;
+}
+
+pub raised_more : (tree : List Reached) (places numbers numbers' : List ℕ) (by at node : ℕ) → ArePlaced (length numbers) tree places →
+    at < length tree → node ≡ (entry_at tree at).node → AreRaised places numbers numbers' by at →
+    AreRaised places numbers (set numbers' node (get_or numbers' node 0 + by)) by (at + 1)
+raised_more tree places numbers numbers' by at node placed inside is raised =
+    let node_in : node < length numbers' = omega (arith, is, placed.inside at inside, raised.one_for_each) in
+    let place : slice_index places node ≡ at + 1 = ap (slice_index places) is ∙ placed.at_place at inside in
+    let up = get_or numbers' node 0 + by in
+    record {
+      one_for_each = length-set numbers' node up ∙ raised.one_for_each;
+      raised = λ v v_in some most. by_write (λ x. x ≡ height numbers v + by) numbers' node v up node_in
+          (λ same. let old = raised.later node (omega (arith, node_in, raised.one_for_each)) (omega (arith, place)) in
+          let there : height numbers v ≡ height numbers node = ap (height numbers) same in
+          omega (arith, old, there))
+          (λ apart. raised.raised v v_in some (elim (cases_lt at (slice_index places v)) [
+            | inl last ↦
+                let back : slice_index places v - 1 ≡ at = omega (arith, last, most) in
+                absurd (apart (sym (placed.placed v v_in some) ∙ ap (λ j. (entry_at tree j).node) back ∙ sym is))
+            | inr before ↦ before
+          ]));
+      kept = λ v v_in none. by_write (λ x. x ≡ height numbers v) numbers' node v up node_in
+          (λ same. let there : slice_index places v ≡ slice_index places node = ap (slice_index places) same in absurd (omega (arith, none, there, place)))
+          (λ _. raised.kept v v_in none);
+      later = λ v v_in more. by_write (λ x. x ≡ height numbers v) numbers' node v up node_in
+          (λ same. let there : slice_index places v ≡ slice_index places node = ap (slice_index places) same in absurd (omega (arith, more, there, place)))
+          (λ _. raised.later v v_in (omega (arith, more)));
+    }
+
+pub raised_all : (tree : List Reached) (places numbers numbers' : List ℕ) (by at : ℕ) → ArePlaced (length numbers) tree places →
+    at ≡ length tree → AreRaised places numbers numbers' by at → Raises places numbers numbers' by
+raised_all tree places numbers numbers' by at placed all raised = record {
+  one_for_each = raised.one_for_each;
+  raised = λ v v_in some. raised.raised v v_in some (omega (arith, all, placed.within v v_in));
+  kept = raised.kept;
+}

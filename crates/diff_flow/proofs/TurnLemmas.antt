@@ -1,13 +1,13 @@
 -- A turn of the search: the numbers of the reached nodes are raised, and one node more is reached.
 use Rattle.std.proofs.Common.{◌≡◌, ℕ, zero, suc, ◌+◌, ◌-◌, ◌*◌, ◌^◌, ◌<◌, ◌≤◌, ◌⊎◌, inl, inr, List, length, slice_index, refl, sym, ap, subst, ◌∙◌, arith, ltb, Bool, true, false, MatchBool, Option, Some, None}
-use Rattle.std.proofs.lemmas.Bool.{cases_lt, ltb-true, ltb-false}
+use Rattle.std.proofs.lemmas.Bool.{cases_eq, cases_lt, ltb-true, ltb-false}
 use Rattle.shape_graphs.specs.Flows.{amount_at}
 use Rattle.diff_flow.specs.declared.steps.Step.{Step}
 use Rattle.diff_flow.specs.declared.search.Reached.{Reached}
 use Rattle.diff_flow.specs.declared.search.Leaving.{Leaving}
-use Rattle.diff_flow.specs.inner.Steps.{step_at, AreStepsWithin, ArePaired, IsOpen, Meets, AreMet}
+use Rattle.diff_flow.specs.inner.Steps.{step_at, AreStepsWithin, AreRows, ArePaired, IsOpen, Meets, AreMet}
 use Rattle.diff_flow.specs.inner.Numbers.{height}
-use Rattle.diff_flow.specs.inner.Search.{entry_at, step_of, AreFit, IsPassable, IsTree, NoneLacks, IsPassed, ArePassed, IsLeaving, IsLeastLeaving, IsLesser, Grows, Raises, IsTrap}
+use Rattle.diff_flow.specs.inner.Search.{entry_at, step_of, AreFit, IsPassable, IsTree, ArePlaced, NoneLacks, IsPassed, ArePassed, IsLeaving, IsSeen, IsSeenBefore, IsLeastLeaving, IsLesser, Grows, Raises, IsTrap}
 use Rattle.diff_flow.proofs.Gaps.{closed_most, uncovered}
 use Rattle.diff_flow.proofs.StepLemmas.{by_direction}
 
@@ -314,23 +314,19 @@ leaves_at arcs steps numbers places k step is inside from to met =
     (record { inside = inside; from = omega (arith, from'); to = omega arith; just = omega (arith, met) })
 
 -- a step that does not leave them changes nothing
-pub least_same : (arcs : ℕ) (steps : List Step) (numbers places : List ℕ) (k : ℕ) (least : Option Leaving) →
-    ((slack : ℕ) → IsLeaving arcs steps numbers places k slack → ⊥) → IsLeastLeaving k arcs steps numbers places least →
-    IsLeastLeaving (k + 1) arcs steps numbers places least
-least_same arcs steps numbers places k None stays was = λ j slack inside leaves.
-    elim (cases_lt j k) [
+pub least_same : (arcs : ℕ) (steps : List Step) (numbers places : List ℕ) (k : ℕ) (seen seen' : ℕ → Type 0) (least : Option Leaving) →
+    ((j : ℕ) → seen' j → seen j ⊎ (j ≡ k)) → ((slack : ℕ) → IsLeaving arcs steps numbers places k slack → ⊥) →
+    IsLeastLeaving seen arcs steps numbers places least → IsLeastLeaving seen' arcs steps numbers places least
+least_same arcs steps numbers places k seen seen' None more stays was = λ j slack inside leaves.
+    elim (more j inside) [
       | inl front ↦ was j slack front leaves
-      | inr back ↦
-          let here : j ≡ k = omega arith in
-          stays slack (subst (λ i. IsLeaving arcs steps numbers places i slack) here leaves)
+      | inr here ↦ stays slack (subst (λ i. IsLeaving arcs steps numbers places i slack) here leaves)
     ]
-least_same arcs steps numbers places k (Some least) stays was = (
+least_same arcs steps numbers places k seen seen' (Some least) more stays was = (
   was.0,
-  λ j slack inside leaves. elim (cases_lt j k) [
+  λ j slack inside leaves. elim (more j inside) [
     | inl front ↦ was.1 j slack front leaves
-    | inr back ↦
-        let here : j ≡ k = omega arith in
-        absurd (stays slack (subst (λ i. IsLeaving arcs steps numbers places i slack) here leaves))
+    | inr here ↦ absurd (stays slack (subst (λ i. IsLeaving arcs steps numbers places i slack) here leaves))
   ],
 )
 
@@ -342,32 +338,115 @@ one_slack arcs steps numbers places j k slack other here leaves leaves' =
     omega (arith, leaves.just, there.just)
 
 -- the first step that leaves them
-pub least_first : (arcs : ℕ) (steps : List Step) (numbers places : List ℕ) (k slack : ℕ) →
-    IsLeaving arcs steps numbers places k slack → IsLeastLeaving k arcs steps numbers places None →
-    IsLeastLeaving (k + 1) arcs steps numbers places (Some (record { step = k; slack = slack }))
-least_first arcs steps numbers places k slack leaves none = (
+pub least_first : (arcs : ℕ) (steps : List Step) (numbers places : List ℕ) (k slack : ℕ) (seen seen' : ℕ → Type 0) →
+    ((j : ℕ) → seen' j → seen j ⊎ (j ≡ k)) →
+    IsLeaving arcs steps numbers places k slack → IsLeastLeaving seen arcs steps numbers places None →
+    IsLeastLeaving seen' arcs steps numbers places (Some (record { step = k; slack = slack }))
+least_first arcs steps numbers places k slack seen seen' more leaves none = (
   leaves,
-  λ j other inside leaves'. elim (cases_lt j k) [
+  λ j other inside leaves'. elim (more j inside) [
     | inl front ↦ absurd (none j other front leaves')
-    | inr back ↦ omega (arith, one_slack arcs steps numbers places j k slack other (omega arith) leaves leaves')
+    | inr here ↦ omega (arith, one_slack arcs steps numbers places j k slack other here leaves leaves')
   ],
 )
 
 -- the lesser of two
-pub least_lesser : (arcs : ℕ) (steps : List Step) (numbers places : List ℕ) (k slack : ℕ) (least lesser : Leaving) →
-    IsLeaving arcs steps numbers places k slack → IsLesser least k slack lesser → IsLeastLeaving k arcs steps numbers places (Some least) →
-    IsLeastLeaving (k + 1) arcs steps numbers places (Some lesser)
-least_lesser arcs steps numbers places k slack least lesser leaves is was = (
+pub least_lesser : (arcs : ℕ) (steps : List Step) (numbers places : List ℕ) (k slack : ℕ) (seen seen' : ℕ → Type 0) (least lesser : Leaving) →
+    ((j : ℕ) → seen' j → seen j ⊎ (j ≡ k)) →
+    IsLeaving arcs steps numbers places k slack → IsLesser least k slack lesser → IsLeastLeaving seen arcs steps numbers places (Some least) →
+    IsLeastLeaving seen' arcs steps numbers places (Some lesser)
+least_lesser arcs steps numbers places k slack seen seen' least lesser more leaves is was = (
   elim is.one [
     | inl same ↦ subst (λ (l : Leaving). IsLeaving arcs steps numbers places l.step l.slack) (sym same) was.0
     | inr here ↦ subst (λ i. IsLeaving arcs steps numbers places i lesser.slack) (sym here.0)
         (subst (λ x. IsLeaving arcs steps numbers places k x) (sym here.1) leaves)
   ],
-  λ j other inside leaves'. elim (cases_lt j k) [
+  λ j other inside leaves'. elim (more j inside) [
     | inl front ↦ omega (arith, was.1 j other front leaves', is.first)
-    | inr back ↦ omega (arith, one_slack arcs steps numbers places j k slack other (omega arith) leaves leaves', is.second)
+    | inr here ↦ omega (arith, one_slack arcs steps numbers places j k slack other here leaves leaves', is.second)
   ],
 )
+
+-- the least of more steps is the least of those of them that leave
+pub least_within : (arcs : ℕ) (steps : List Step) (numbers places : List ℕ) (seen seen' : ℕ → Type 0) (least : Option Leaving) →
+    ((k slack : ℕ) → IsLeaving arcs steps numbers places k slack → seen' k → seen k) →
+    IsLeastLeaving seen arcs steps numbers places least → IsLeastLeaving seen' arcs steps numbers places least
+least_within arcs steps numbers places seen seen' None more was = λ k slack inside leaves. was k slack (more k slack leaves inside) leaves
+least_within arcs steps numbers places seen seen' (Some least) more was =
+    (was.0, λ k slack inside leaves. was.1 k slack (more k slack leaves inside) leaves)
+
+-- one step more of the node is seen
+pub seen_next : (steps : List Step) (places : List ℕ) (at node k j : ℕ) → IsSeen steps places at node k j →
+    IsSeen steps places at node (k + 1) j ⊎ (j ≡ k)
+seen_next steps places at node k j seen =
+    elim seen [
+      | inl before ↦ inl (inl before)
+      | inr here ↦ elim (cases_eq j k) [
+        | inl same ↦ inr same
+        | inr apart ↦ inl (inr (here.0, omega (arith, here.1, apart)))
+      ]
+    ]
+
+-- no step of the node is seen yet
+pub least_begun : (nodes arcs : ℕ) (steps : List Step) (numbers places last before : List ℕ) (at node : ℕ) (least : Option Leaving) →
+    ArePaired arcs steps → AreRows nodes (length steps) steps last before →
+    IsLeastLeaving (IsSeenBefore steps places at) arcs steps numbers places least →
+    IsLeastLeaving (IsSeen steps places at node (slice_index last node)) arcs steps numbers places least
+least_begun nodes arcs steps numbers places last before at node least paired rows was =
+    least_within arcs steps numbers places (IsSeenBefore steps places at) (IsSeen steps places at node (slice_index last node)) least
+    (λ k slack leaves seen. elim seen [
+      | inl seen_before ↦ seen_before
+      | inr here ↦
+          let all = rows.last_all k (omega (arith, leaves.inside, paired.two_for_each)) in
+          absurd (omega (arith, here.1, subst (λ v. k < slice_index last v) here.0 all))
+    ]) was
+
+-- the steps of the node between two entries of its row are none
+pub least_next : (nodes arcs : ℕ) (steps : List Step) (numbers places last before : List ℕ) (at node k : ℕ) (least : Option Leaving) →
+    ArePaired arcs steps → AreRows nodes (length steps) steps last before → k < length steps → (step_at steps k).from ≡ node →
+    IsLeastLeaving (IsSeen steps places at (step_at steps k).from k) arcs steps numbers places least →
+    IsLeastLeaving (IsSeen steps places at node (slice_index before k)) arcs steps numbers places least
+least_next nodes arcs steps numbers places last before at node k least paired rows inside from was =
+    least_within arcs steps numbers places (IsSeen steps places at (step_at steps k).from k)
+    (IsSeen steps places at node (slice_index before k)) least
+    (λ j slack leaves seen. elim seen [
+      | inl seen_before ↦ inl seen_before
+      | inr here ↦ elim (cases_lt j k) [
+        | inl less ↦ absurd (let all = rows.before_all j k less inside (here.0 ∙ sym from) in omega (arith, all, here.1))
+        | inr behind ↦ inr (here.0 ∙ sym from, behind)
+      ]
+    ]) was
+
+-- the steps of one entry more are seen
+pub least_entry : (nodes arcs reach : ℕ) (steps : List Step) (numbers places : List ℕ) (tree : List Reached) (at : ℕ) (least : Option Leaving) →
+    AreStepsWithin nodes arcs reach steps → ArePaired arcs steps → ArePlaced nodes tree places → at < length tree →
+    IsLeastLeaving (IsSeen steps places at (entry_at tree at).node 0) arcs steps numbers places least →
+    IsLeastLeaving (IsSeenBefore steps places (at + 1)) arcs steps numbers places least
+least_entry nodes arcs reach steps numbers places tree at least all paired placed inside was =
+    least_within arcs steps numbers places (IsSeen steps places at (entry_at tree at).node 0) (IsSeenBefore steps places (at + 1)) least
+    (λ k slack leaves seen. elim (cases_lt at (slice_index places (step_at steps k).from)) [
+      | inl last ↦
+          let within = all k (omega (arith, leaves.inside, paired.two_for_each)) in
+          let is = placed.placed (step_at steps k).from within.from leaves.from in
+          let place : slice_index places (step_at steps k).from - 1 ≡ at = omega (arith, last, seen) in
+          inr (sym is ∙ ap (λ j. (entry_at tree j).node) place, omega arith)
+      | inr before ↦ inl before
+    ]) was
+
+-- the steps of all entries are all that leave
+pub least_of_all : (nodes arcs reach : ℕ) (steps : List Step) (numbers places : List ℕ) (tree : List Reached) (count : ℕ) (least : Option Leaving) →
+    AreStepsWithin nodes arcs reach steps → ArePaired arcs steps → ArePlaced nodes tree places → count ≡ length tree →
+    IsLeastLeaving (IsSeenBefore steps places count) arcs steps numbers places least →
+    IsLeastLeaving (λ k. k < arcs) arcs steps numbers places least
+least_of_all nodes arcs reach steps numbers places tree count least all paired placed is was =
+    least_within arcs steps numbers places (IsSeenBefore steps places count) (λ k. k < arcs) least
+    (λ k slack leaves inside.
+    let within = all k (omega (arith, inside, paired.two_for_each)) in
+    omega (arith, is, placed.within (step_at steps k).from within.from)) was
+
+-- no step is seen yet
+pub least_none : (arcs : ℕ) (steps : List Step) (numbers places : List ℕ) → IsLeastLeaving (IsSeenBefore steps places 0) arcs steps numbers places None
+least_none arcs steps numbers places k slack seen leaves = omega (arith, seen, leaves.from)
 
 by_test : (b : Bool) (P Q : Type 0) → (b ≡ true → P) → (b ≡ false → Q) → MatchBool b P Q
 by_test true P Q this that = this refl

@@ -3,3 +3,4 @@ pub mod Steps
 pub mod Numbers
 pub mod Search
 pub mod Routing
+pub mod Bettering

@@ -9,42 +9,10 @@ ghost use Rattle.diff_flow.specs.inner.Numbers.{height, NoneMeet};
 ghost use Rattle.diff_flow.specs.inner.Routing.{IsDetour, IsSlack, net_by};
 
 use crate::route::send;
-use crate::search::{plant, spread};
+use crate::search::{Tree, plant, spread};
 use crate::steps::{Step, Steps};
 use compact_types::NoMemory;
 use std::alloc::Global;
-
-/// An arc with an amount that is not tight.
-pub(crate) fn slack_arc(steps: &Steps, amounts: &[u64], numbers: &[u64]) -> usize
-    requires amounts { length amounts.now ≡ steps.now.arcs }
-    requires numbers { length numbers.now ≡ steps.now.nodes }
-    requires low { (v : ℕ) → v < steps.now.nodes → height numbers.now v ≤ 2 ^ 60 }
-    requires met { (k : ℕ) → k < steps.now.arcs →
-        height numbers.now (step_at steps.now.list.items k).from
-        + (step_at steps.now.list.items k).up
-        ≤ height numbers.now (step_at steps.now.list.items k).to }
-    requires none { NoneMeet steps.now.list.items amounts.now }
-    ensures { IsSlack steps.now.arcs steps.now.list.items amounts.now numbers.now result }
-{
-    for i in 0..steps.arcs {
-        if is_slack(steps.at(i), amounts[i], numbers) {
-            return i;
-        }
-    }
-    unreachable!()
-}
-
-/// Whether the step's arc has an amount, and the numbers more than meet it.
-fn is_slack(step: Step, amount: u64, numbers: &[u64]) -> bool
-    requires from { step.from < length numbers.now }
-    requires to { step.to < length numbers.now }
-    requires low { slice_index numbers.now step.from ≤ 2 ^ 60 }
-    requires up { step.up ≤ 1000 }
-    ensures { IsTrue result ↔ ((0 < amount)
-        × (height numbers.now step.from + step.up < height numbers.now step.to)) }
-{
-    amount > 0 && numbers[step.to as usize] > numbers[step.from as usize] + step.up as u64
-}
 
 /// Sends one unit of the amount on arc `i` another way, which is tight where it follows arcs.
 pub(crate) fn detour(
@@ -70,7 +38,8 @@ pub(crate) fn detour(
     let step = steps.at(i);
     let mut want = vec![in alloc; 0u128; steps.nodes as usize]?;
     want[step.to as usize] = 1;
-    let mut tree = plant(alloc, step.from, 1, steps.nodes)?;
+    let mut tree = Tree::blank(alloc, steps.nodes)?;
+    plant(step.from, 1, steps.nodes, &mut tree)?;
     if !spread(steps, amounts, numbers, want.as_slice(), &mut tree)? {
         unreachable!()
     }

@@ -1,23 +1,22 @@
 //! A better flow, or that the flow is best.
 
-ghost use Rattle.std.specs.Prelude.{◌≡◌, ℕ, ◌+◌, ◌-◌, ◌*◌, ◌<◌, ◌≤◌, ◌^◌, ◌↔◌, pos, ◌+ℤ◌, ◌≤ℤ◌};
-ghost use Rattle.std.specs.Prelude.{length, slice_index, IfOk, IsTrue, List, MatchResult};
+ghost use Rattle.std.specs.Prelude.{◌≡◌, ◌^◌, ◌↔◌, pos, ◌+ℤ◌, ◌≤ℤ◌};
+ghost use Rattle.std.specs.Prelude.{length, IfOk, IsTrue, MatchResult};
 ghost use Rattle.shape_graphs.specs.Paths.{HasCycle};
-ghost use Rattle.shape_graphs.specs.Flows.{amount_at, Balances, bound_of, IsBestFlow};
-ghost use Rattle.shape_graphs.specs.declared.graph.TheConstants.{MOST_AMOUNT};
+ghost use Rattle.shape_graphs.specs.Flows.{Balances, bound_of, IsBestFlow};
 ghost use Rattle.diff_flow.specs.Amounts.{IsFlowOn};
 ghost use Rattle.diff_flow.specs.Improving.{IsImproved, IsBestByNumbers, IsRaised};
-ghost use Rattle.diff_flow.specs.inner.Steps.{AreMet, AreStepsOf};
-ghost use Rattle.diff_flow.specs.inner.Numbers.{height, NoneMeet};
-ghost use Rattle.diff_flow.specs.inner.Routing.{AreFirst, IsNear};
+ghost use Rattle.diff_flow.specs.inner.Steps.{AreStepsOf};
+ghost use Rattle.diff_flow.specs.inner.Routing.{IsNear};
+ghost use Rattle.diff_flow.specs.inner.Bettering.{IsBetter};
 
-use crate::detour::{detour, slack_arc};
+use crate::detour::detour;
 use crate::flow::bound;
-use crate::labels::least_met;
-use crate::route::{route, widened};
-use crate::steps::{Steps, steps_of};
-use compact_types::{Flow, Items, NoMemory};
-use shape_graphs::{DiffGraph, arcs_in_order};
+use crate::network::{Better, Network};
+use crate::route::{narrowed, widened};
+use crate::steps::Steps;
+use compact_types::{Flow, NoMemory};
+use shape_graphs::DiffGraph;
 use std::alloc::Global;
 
 /// What became of a flow: its bound was raised by so much, or it is best.
@@ -29,7 +28,7 @@ pub enum Improved {
 
 /// A flow, and by how much its bound is higher.
 #[derive(Drop)]
-struct Better {
+struct Raise {
     flow: Flow,
     by: i64,
 }
@@ -46,75 +45,45 @@ pub fn improve(alloc: Global, graph: &DiffGraph, flow: &mut Flow) -> Result<Impr
     ensures exact { IsBestFlow graph.now.nodes graph.now.arcs flow.old.amounts →
         IfOk result (λ improved. improved ≡ Improved.Best) }
 {
-    let Some(order) = arcs_in_order(alloc, graph)? else {
+    let Some(network) = Network::of(alloc, graph)? else {
         unreachable!()
     };
-    let steps = steps_of(alloc, graph)?;
-    let found = least_met(alloc, &steps, flow.amounts.as_slice(), order.as_slice())?;
-    if found.is_some() {
+    let Some(better) = network.better(alloc, flow)? else {
         return Ok(Improved::Best);
-    }
-    let mut numbers = walks(alloc, graph, &steps, order.as_slice())?;
-    let better = better_flow(alloc, graph, &steps, flow, numbers.as_mut_slice())?;
-    let by = better.by;
-    *flow = better.flow;
-    Ok(Improved::Raised(by))
+    };
+    let raise = raise_to(alloc, graph, &network.steps, flow, better)?;
+    *flow = raise.flow;
+    Ok(Improved::Raised(raise.by))
 }
 
-/// For each node the length of a longest walk to it.
-fn walks(
-    alloc: Global,
-    graph: &DiffGraph,
-    steps: &Steps,
-    order: &[u32],
-) -> Result<Vec<u64>, NoMemory>
-    requires no_cycle { HasCycle graph.now.arcs → ⊥ }
-    requires arcs { steps.now.arcs ≡ length graph.now.arcs }
-    requires nodes { steps.now.nodes ≡ graph.now.nodes }
-    requires steps { AreStepsOf graph.now.arcs steps.now.list.items }
-    requires order { (i : ℕ) → i < length order.now →
-        slice_index order.now i < length steps.now.list.items }
-    ensures { IfOk result (λ numbers. AreFirst steps.now.nodes steps.now.arcs
-        ((steps.now.nodes - 1) * steps.now.reach) steps.now.list.items numbers.items) }
-{
-    let none = vec![in alloc; 0u64; steps.arcs]?;
-    match least_met(alloc, steps, none.as_slice(), order)? {
-        Some(numbers) => Ok(numbers),
-        None => unreachable!(),
-    }
-}
-
-/// A better flow than one that is not best: a best one, or one by a unit on another way where the
-/// bound of a best one is too far above.
-fn better_flow(
+/// The best flow that is better, or one by a unit on another way where the bound of the best one is
+/// too far above.
+fn raise_to(
     alloc: Global,
     graph: &DiffGraph,
     steps: &Steps,
     flow: &Flow,
-    numbers: &mut [u64],
-) -> Result<Better, NoMemory>
+    better: Better,
+) -> Result<Raise, NoMemory>
     requires flow { IsFlowOn graph.now.arcs flow.now.amounts }
     requires balances { Balances graph.now.nodes graph.now.arcs flow.now.amounts }
     requires nodes { steps.now.nodes ≡ graph.now.nodes }
     requires arcs { steps.now.arcs ≡ length graph.now.arcs }
     requires steps { AreStepsOf graph.now.arcs steps.now.list.items }
-    requires numbers { AreFirst steps.now.nodes steps.now.arcs
-        ((steps.now.nodes - 1) * steps.now.reach) steps.now.list.items numbers.old }
-    requires none { NoneMeet steps.now.list.items flow.now.amounts }
-    ensures { IfOk result (λ better. IsRaised graph.now.nodes graph.now.arcs flow.now.amounts
-        better.flow.amounts better.by) }
+    requires better { IsBetter graph.now steps.now flow.now.amounts better }
+    ensures { IfOk result (λ raise. IsRaised graph.now.nodes graph.now.arcs flow.now.amounts
+        raise.flow.amounts raise.by) }
 {
-    let best = best_flow(alloc, graph, steps, flow, numbers)?;
-    let by = rise(graph, flow, &best);
+    let by = rise(graph, flow, &better.flow);
     if fits(by) {
-        return Ok(Better {
-            flow: best,
+        return Ok(Raise {
+            flow: better.flow,
             by: narrow(by),
         });
     }
-    let near = near_flow(alloc, graph, steps, flow, numbers)?;
+    let near = near_flow(alloc, graph, steps, flow, &better)?;
     let by = narrow(rise(graph, flow, &near));
-    Ok(Better { flow: near, by })
+    Ok(Raise { flow: near, by })
 }
 
 /// By how much the bound of the other flow is higher.
@@ -154,34 +123,6 @@ fn narrow(by: i128) -> i64
     by as i64
 }
 
-/// A best flow of the graph, found from the one given.
-fn best_flow(
-    alloc: Global,
-    graph: &DiffGraph,
-    steps: &Steps,
-    flow: &Flow,
-    numbers: &mut [u64],
-) -> Result<Flow, NoMemory>
-    requires flow { IsFlowOn graph.now.arcs flow.now.amounts }
-    requires balances { Balances graph.now.nodes graph.now.arcs flow.now.amounts }
-    requires nodes { steps.now.nodes ≡ graph.now.nodes }
-    requires arcs { steps.now.arcs ≡ length graph.now.arcs }
-    requires steps { AreStepsOf graph.now.arcs steps.now.list.items }
-    requires numbers { AreFirst steps.now.nodes steps.now.arcs
-        ((steps.now.nodes - 1) * steps.now.reach) steps.now.list.items numbers.old }
-    ensures best { IfOk result (λ best.
-        IsBestByNumbers graph.now.nodes graph.now.arcs best.amounts) }
-    ensures met { IfOk result (λ best.
-        AreMet steps.now.list.items best.amounts (height numbers.new)) }
-    ensures low { IfOk result (λ _.
-        (v : ℕ) → v < steps.now.nodes → height numbers.new v ≤ 2 ^ 60) }
-{
-    let amounts = route(alloc, steps, flow.amounts.as_slice(), numbers)?;
-    Ok(Flow {
-        amounts: narrowed(alloc, amounts.as_slice())?,
-    })
-}
-
 /// A flow with a unit on another way than in the one given, which is not best. Its bound is higher,
 /// by 1,000 for each arc at most.
 fn near_flow(
@@ -189,37 +130,26 @@ fn near_flow(
     graph: &DiffGraph,
     steps: &Steps,
     flow: &Flow,
-    numbers: &[u64],
+    better: &Better,
 ) -> Result<Flow, NoMemory>
     requires flow { IsFlowOn graph.now.arcs flow.now.amounts }
     requires balances { Balances graph.now.nodes graph.now.arcs flow.now.amounts }
     requires nodes { steps.now.nodes ≡ graph.now.nodes }
     requires arcs { steps.now.arcs ≡ length graph.now.arcs }
     requires steps { AreStepsOf graph.now.arcs steps.now.list.items }
-    requires numbers { length numbers.now ≡ steps.now.nodes }
-    requires low { (v : ℕ) → v < steps.now.nodes → height numbers.now v ≤ 2 ^ 60 }
-    requires none { NoneMeet steps.now.list.items flow.now.amounts }
-    requires best { (best : List ℕ) × Balances graph.now.nodes graph.now.arcs best
-        × AreMet steps.now.list.items best (height numbers.now) }
+    requires better { IsBetter graph.now steps.now flow.now.amounts better.now }
     ensures { IfOk result (λ near. IsNear graph.now.nodes graph.now.arcs flow.now.amounts
         near.amounts) }
 {
-    let i = slack_arc(steps, flow.amounts.as_slice(), numbers);
     let mut amounts = widened(alloc, flow.amounts.as_slice())?;
-    detour(alloc, i, steps, amounts.as_mut_slice(), numbers)?;
+    detour(
+        alloc,
+        better.slack,
+        steps,
+        amounts.as_mut_slice(),
+        better.numbers.as_slice(),
+    )?;
     Ok(Flow {
         amounts: narrowed(alloc, amounts.as_slice())?,
     })
-}
-
-/// The same amounts, which all are amounts of a flow.
-fn narrowed(alloc: Global, amounts: &[u128]) -> Result<Items<u64>, NoMemory>
-    requires { (i : ℕ) → i < length amounts.now → amount_at amounts.now i ≤ MOST_AMOUNT }
-    ensures { IfOk result (λ list. list ≡ amounts.now) }
-{
-    let mut list = Vec::with_capacity(alloc, amounts.len())?;
-    for amount in amounts {
-        list.push(*amount as u64)?;
-    }
-    Ok(Items::from_vec(list))
 }

@@ -1,18 +1,18 @@
 //! Labels: the least numbers from zero upward that meet all open steps.
 //!
-//! The numbers begin with a walk over the arcs in topological order, and are then raised from a
-//! queue of the nodes whose steps may fail. A number above the limit shows that no numbers meet the
-//! steps.
+//! The numbers begin with the longest walks, which no numbers that meet the steps are below, and
+//! are then raised from a queue of the nodes whose steps may fail. A number above the limit shows
+//! that no numbers meet the steps.
 
 ghost use Rattle.std.specs.Prelude.{◌≡◌, ◌≤◌, ◌<◌, ◌+◌, ◌-◌, ◌*◌, ◌^◌, ℕ};
-ghost use Rattle.std.specs.Prelude.{length, slice_index, IfOk};
+ghost use Rattle.std.specs.Prelude.{[], length, replicate, slice_index, IfOk};
 ghost use Rattle.std.specs.Prelude.{sum, MatchBool, MatchOption};
 ghost use Rattle.diff_flow.specs.inner.Steps.{step_at};
 ghost use Rattle.diff_flow.specs.inner.Numbers.{
+  AreFrom,
   AreLate,
   AreLeastMet,
   AreListed,
-  AreLow,
   Lifts,
   NoneLate,
   NoneMeet,
@@ -20,34 +20,33 @@ ghost use Rattle.diff_flow.specs.inner.Numbers.{
   Waits,
 };
 
+use crate::slack::is_slack;
 use crate::steps::{Step, Steps};
 use compact_types::NoMemory;
 use std::alloc::Global;
 use std::collections::VecDeque;
 
 /// The least numbers from zero upward that meet all open steps; `None` exactly where no numbers do.
-/// `order` has numbers of steps; the numbers are found soonest where it is a topological order.
+/// They begin with the longest walks.
 pub(crate) fn least_met(
     alloc: Global,
     steps: &Steps,
+    walks: &[u64],
     amounts: &[u64],
-    order: &[u32],
 ) -> Result<Option<Vec<u64>>, NoMemory>
+    requires walks { AreLeastMet steps.now.nodes steps.now.list.items []
+        ((steps.now.nodes - 1) * steps.now.reach) walks.now }
     requires amounts { length amounts.now ≡ steps.now.arcs }
-    requires order { (i : ℕ) → i < length order.now →
-        slice_index order.now i < length steps.now.list.items }
     ensures { IfOk result (λ found. MatchOption found
         (NoneMeet steps.now.list.items amounts.now)
         (λ numbers. AreLeastMet steps.now.nodes steps.now.list.items amounts.now
         ((steps.now.nodes - 1) * steps.now.reach) numbers.items)) }
 {
     let limit = limit_of(steps);
-    let mut numbers = vec![in alloc; 0u64; steps.nodes as usize]?;
-    let mut waits = vec![in alloc; 1u8; steps.nodes as usize]?;
-    let mut queue = all_nodes(alloc, steps.nodes)?;
-    if !walk(steps, amounts, order, limit, numbers.as_mut_slice()) {
-        return Ok(None);
-    }
+    let mut waits = vec![in alloc; 0u8; steps.nodes as usize]?;
+    let mut queue = VecDeque::with_capacity(alloc, steps.nodes as usize)?;
+    wait_all(steps, amounts, walks, waits.as_mut_slice(), &mut queue)?;
+    let mut numbers = Vec::from_slice(alloc, walks)?;
     if !settle(
         steps,
         amounts,
@@ -59,6 +58,53 @@ pub(crate) fn least_met(
         return Ok(None);
     }
     Ok(Some(numbers))
+}
+
+/// Puts the nodes into the queue from which a step leads against an arc that the walks leave slack.
+fn wait_all(
+    steps: &Steps,
+    amounts: &[u64],
+    walks: &[u64],
+    waits: &mut [u8],
+    queue: &mut VecDeque<u32>,
+) -> Result<(), NoMemory>
+    requires walks { AreLeastMet steps.now.nodes steps.now.list.items []
+        ((steps.now.nodes - 1) * steps.now.reach) walks.now }
+    requires amounts { length amounts.now ≡ steps.now.arcs }
+    requires waits { waits.old ≡ replicate steps.now.nodes 0 }
+    requires queue { queue.old.items ≡ [] }
+    ensures { IfOk result (λ _. Rises steps.now.nodes steps.now.list.items amounts.now
+        ((steps.now.nodes - 1) * steps.now.reach) walks.now waits.new queue.new.items NoneLate) }
+{
+    for i in 0..steps.arcs {
+        wait_where_slack(i, steps, amounts, walks, waits, queue)?;
+    }
+    Ok(())
+}
+
+/// Puts the node where arc `i` ends into the queue, where the walks leave the arc slack.
+fn wait_where_slack(
+    i: usize,
+    steps: &Steps,
+    amounts: &[u64],
+    walks: &[u64],
+    waits: &mut [u8],
+    queue: &mut VecDeque<u32>,
+) -> Result<(), NoMemory>
+    requires inside { i < steps.now.arcs }
+    requires amounts { length amounts.now ≡ steps.now.arcs }
+    requires rises { Rises steps.now.nodes steps.now.list.items amounts.now
+        ((steps.now.nodes - 1) * steps.now.reach) walks.now waits.old queue.old.items
+        (AreFrom (steps.now.arcs + i)) }
+    ensures rises { IfOk result (λ _. Rises steps.now.nodes steps.now.list.items amounts.now
+        ((steps.now.nodes - 1) * steps.now.reach) walks.now waits.new queue.new.items
+        (AreFrom (steps.now.arcs + (i + 1)))) }
+{
+    let step = steps.at(i);
+    if is_slack(step, amounts[i], walks) {
+        wait(step.to, waits, queue)?;
+    }
+    Ok(())
 }
 
 /// Raises numbers by the steps of the nodes in the queue until it is empty; whether all stay within
@@ -96,57 +142,6 @@ pub(crate) fn limit_of(steps: &Steps) -> u64
     ensures low { result ≤ 2 ^ 42 }
 {
     (steps.nodes as u64).saturating_sub(1) * steps.reach as u64
-}
-
-/// Raises numbers by the steps in this order, each once; whether all stay within the limit.
-fn walk(steps: &Steps, amounts: &[u64], order: &[u32], limit: u64, numbers: &mut [u64]) -> bool
-    requires amounts { length amounts.now ≡ steps.now.arcs }
-    requires order { (i : ℕ) → i < length order.now →
-        slice_index order.now i < length steps.now.list.items }
-    requires limit { limit ≡ (steps.now.nodes - 1) * steps.now.reach }
-    requires few { limit ≤ 2 ^ 42 }
-    requires low { AreLow steps.now.nodes steps.now.list.items amounts.now limit numbers.old }
-    ensures { MatchBool result
-        (AreLow steps.now.nodes steps.now.list.items amounts.now limit numbers.new)
-        (NoneMeet steps.now.list.items amounts.now) }
-{
-    for i in 0..order.len() {
-        if !raise_once(order[i] as usize, steps, amounts, limit, numbers) {
-            return false;
-        }
-    }
-    true
-}
-
-/// Raises the number at the end of step `k`; whether it stays within the limit.
-fn raise_once(k: usize, steps: &Steps, amounts: &[u64], limit: u64, numbers: &mut [u64]) -> bool
-    requires inside { k < length steps.now.list.items }
-    requires amounts { length amounts.now ≡ steps.now.arcs }
-    requires limit { limit ≡ (steps.now.nodes - 1) * steps.now.reach }
-    requires few { limit ≤ 2 ^ 42 }
-    requires low { AreLow steps.now.nodes steps.now.list.items amounts.now limit numbers.old }
-    ensures { MatchBool result
-        (AreLow steps.now.nodes steps.now.list.items amounts.now limit numbers.new)
-        (NoneMeet steps.now.list.items amounts.now) }
-{
-    let step = steps.at(k);
-    match lift(step, amounts[step.arc as usize], limit, numbers) {
-        Lifted::Kept => true,
-        Lifted::Raised => true,
-        Lifted::TooHigh => false,
-    }
-}
-
-/// All nodes in the order of their numbers.
-fn all_nodes(alloc: Global, nodes: u32) -> Result<VecDeque<u32>, NoMemory>
-    ensures len { IfOk result (λ queue. length queue.items ≡ nodes) }
-    ensures each { IfOk result (λ queue. (v : ℕ) → v < nodes → slice_index queue.items v ≡ v) }
-{
-    let mut queue = VecDeque::with_capacity(alloc, nodes as usize)?;
-    for node in 0..nodes {
-        queue.push_back(node)?;
-    }
-    Ok(queue)
 }
 
 /// Raises numbers by all steps of the node; whether all stay within the limit.
@@ -224,14 +219,14 @@ fn raise(
 
 /// What became of the number at the end of a step.
 #[derive(Clone, Copy)]
-enum Lifted {
+pub(crate) enum Lifted {
     Kept,
     Raised,
     TooHigh,
 }
 
 /// Raises the number at the end of the step, where it is open, until it just meets the step.
-fn lift(step: Step, amount: u64, limit: u64, numbers: &mut [u64]) -> Lifted
+pub(crate) fn lift(step: Step, amount: u64, limit: u64, numbers: &mut [u64]) -> Lifted
     requires from { step.from < length numbers.old }
     requires to { step.to < length numbers.old }
     requires from_low { slice_index numbers.old step.from ≤ 2 ^ 60 }

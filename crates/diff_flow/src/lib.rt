@@ -15,17 +15,21 @@ mod flow;
 mod improving;
 mod labels;
 mod law;
+mod network;
 mod route;
 mod search;
+mod slack;
 mod steps;
 #[cfg(test)]
 mod tests;
 mod tight;
+mod walks;
 
 pub use flow::{balanced, bound, first_flow};
 pub use improving::{Improved, improve};
 pub use law::{
     amounts_are_low, flows_bound_lengths, least_numbers_have_no_gaps, least_solutions_meet,
 };
+pub use network::Network;
 pub use shape_graphs::MOST_AMOUNT;
 pub use tight::least_tight;

@@ -4,9 +4,10 @@
 ghost use Rattle.std.specs.Prelude.{◌≡◌, ◌≤◌, ◌<◌, ◌+◌, ◌-◌, ◌*◌, ◌^◌, ℕ};
 ghost use Rattle.std.specs.Prelude.{length, slice_index, IfOk, List};
 ghost use Rattle.shape_graphs.specs.Flows.{amount_at};
+ghost use Rattle.shape_graphs.specs.declared.graph.TheConstants.{MOST_AMOUNT};
 ghost use Rattle.diff_flow.specs.inner.Steps.{AreMet, step_at};
 ghost use Rattle.diff_flow.specs.inner.Numbers.{height};
-ghost use Rattle.diff_flow.specs.inner.Search.{entry_at, IsTree};
+ghost use Rattle.diff_flow.specs.inner.Search.{entry_at, IsBlank, IsTree};
 ghost use Rattle.diff_flow.specs.inner.Routing.{
   AreDropped,
   AreGiven,
@@ -18,9 +19,9 @@ ghost use Rattle.diff_flow.specs.inner.Routing.{
   net_by,
 };
 
-use crate::search::{Tree, find};
+use crate::search::{Tree, clear, find};
 use crate::steps::{Step, Steps};
-use compact_types::NoMemory;
+use compact_types::{Items, NoMemory};
 use std::alloc::Global;
 
 /// Drops the amounts that are not tight, and sends them where they lack along tight steps; the
@@ -46,19 +47,21 @@ pub(crate) fn route(
         ≡ net_by steps.now.list.items steps.now.arcs given.now v) }
     ensures met { IfOk result (λ amounts.
         AreMet steps.now.list.items amounts.items (height numbers.new)) }
+    ensures one_for_each { IfOk result (λ _. length numbers.new ≡ steps.now.nodes) }
     ensures low { IfOk result (λ _.
         (v : ℕ) → v < steps.now.nodes → height numbers.new v ≤ 2 ^ 60) }
 {
     let mut amounts = widened(alloc, given)?;
     let mut over = vec![in alloc; 0u128; steps.nodes as usize]?;
     let mut want = vec![in alloc; 0u128; steps.nodes as usize]?;
+    let mut tree = Tree::blank(alloc, steps.nodes)?;
     reroute(
-        alloc,
         steps,
         amounts.as_mut_slice(),
         numbers,
         over.as_mut_slice(),
         want.as_mut_slice(),
+        &mut tree,
     )?;
     Ok(amounts)
 }
@@ -66,13 +69,14 @@ pub(crate) fn route(
 /// Drops the amounts on arcs that are not tight, and sends what is then in excess to where they
 /// lack.
 fn reroute(
-    alloc: Global,
     steps: &Steps,
     amounts: &mut [u128],
     numbers: &mut [u64],
     over: &mut [u128],
     want: &mut [u128],
+    tree: &mut Tree,
 ) -> Result<(), NoMemory>
+    requires blank { IsBlank steps.now.nodes tree.old.entries.items tree.old.places.items }
     requires numbers { length numbers.old ≡ steps.now.nodes }
     requires limit { (v : ℕ) → v < steps.now.nodes →
         height numbers.old v ≤ (steps.now.nodes - 1) * steps.now.reach }
@@ -93,11 +97,12 @@ fn reroute(
         ≡ net_by steps.now.list.items steps.now.arcs given v) }
     ensures met { IfOk result (λ _.
         AreMet steps.now.list.items amounts.new (height numbers.new)) }
+    ensures one_for_each { IfOk result (λ _. length numbers.new ≡ steps.now.nodes) }
     ensures low { IfOk result (λ _.
         (v : ℕ) → v < steps.now.nodes → height numbers.new v ≤ 2 ^ 60) }
 {
     drop_all(steps, numbers, amounts, over, want);
-    send_all(alloc, steps, amounts, numbers, over, want)?;
+    send_all(steps, amounts, numbers, over, want, tree)?;
     Ok(())
 }
 
@@ -110,6 +115,18 @@ pub(crate) fn widened(alloc: Global, given: &[u64]) -> Result<Vec<u128>, NoMemor
         amounts.push(*amount as u128)?;
     }
     Ok(amounts)
+}
+
+/// The same amounts, which all are amounts of a flow.
+pub(crate) fn narrowed(alloc: Global, amounts: &[u128]) -> Result<Items<u64>, NoMemory>
+    requires { (i : ℕ) → i < length amounts.now → amount_at amounts.now i ≤ MOST_AMOUNT }
+    ensures { IfOk result (λ list. list ≡ amounts.now) }
+{
+    let mut list = Vec::with_capacity(alloc, amounts.len())?;
+    for amount in amounts {
+        list.push(*amount as u64)?;
+    }
+    Ok(Items::from_vec(list))
 }
 
 /// Drops the amounts on all arcs that are not tight.
@@ -168,13 +185,14 @@ fn drop_slack(
 
 /// Sends the excess of all nodes to where they lack.
 fn send_all(
-    alloc: Global,
     steps: &Steps,
     amounts: &mut [u128],
     numbers: &mut [u64],
     over: &mut [u128],
     want: &mut [u128],
+    tree: &mut Tree,
 ) -> Result<(), NoMemory>
+    requires blank { IsBlank steps.now.nodes tree.old.entries.items tree.old.places.items }
     requires routing { IsRouting steps.now.nodes steps.now.arcs
         ((steps.now.nodes - 1) * steps.now.reach) steps.now.list.items
         amounts.old numbers.old over.old want.old }
@@ -183,10 +201,12 @@ fn send_all(
         amounts.new numbers.new over.new want.new) }
     ensures kept { IfOk result (λ _. IsKept steps.now.nodes steps.now.arcs steps.now.list.items
         amounts.old over.old want.old amounts.new over.new want.new) }
+    ensures blank { IfOk result (λ _.
+        IsBlank steps.now.nodes tree.new.entries.items tree.new.places.items) }
     ensures none { IfOk result (λ _. (v : ℕ) → v < steps.now.nodes → slice_index over.new v ≡ 0) }
 {
     for node in 0..steps.nodes {
-        send_from(node, alloc, steps, amounts, numbers, over, want)?;
+        send_from(node, steps, amounts, numbers, over, want, tree)?;
     }
     Ok(())
 }
@@ -194,13 +214,14 @@ fn send_all(
 /// Sends the excess of the node to where they lack.
 fn send_from(
     node: u32,
-    alloc: Global,
     steps: &Steps,
     amounts: &mut [u128],
     numbers: &mut [u64],
     over: &mut [u128],
     want: &mut [u128],
+    tree: &mut Tree,
 ) -> Result<(), NoMemory>
+    requires blank { IsBlank steps.now.nodes tree.old.entries.items tree.old.places.items }
     requires node { node < steps.now.nodes }
     requires routing { IsRouting steps.now.nodes steps.now.arcs
         ((steps.now.nodes - 1) * steps.now.reach) steps.now.list.items
@@ -210,11 +231,13 @@ fn send_from(
         amounts.new numbers.new over.new want.new) }
     ensures kept { IfOk result (λ _. IsKept steps.now.nodes steps.now.arcs steps.now.list.items
         amounts.old over.old want.old amounts.new over.new want.new) }
+    ensures blank { IfOk result (λ _.
+        IsBlank steps.now.nodes tree.new.entries.items tree.new.places.items) }
     ensures none { IfOk result (λ _. slice_index over.new node ≡ 0) }
     ensures less { IfOk result (λ _. (v : ℕ) → slice_index over.new v ≤ slice_index over.old v) }
 {
     while over[node as usize] > 0 {
-        send_once(node, alloc, steps, amounts, numbers, over, want)?;
+        send_once(node, steps, amounts, numbers, over, want, tree)?;
     }
     Ok(())
 }
@@ -222,13 +245,14 @@ fn send_from(
 /// Sends some of the excess of the node along one way.
 fn send_once(
     node: u32,
-    alloc: Global,
     steps: &Steps,
     amounts: &mut [u128],
     numbers: &mut [u64],
     over: &mut [u128],
     want: &mut [u128],
+    tree: &mut Tree,
 ) -> Result<(), NoMemory>
+    requires blank { IsBlank steps.now.nodes tree.old.entries.items tree.old.places.items }
     requires node { node < steps.now.nodes }
     requires some { 0 < slice_index over.old node }
     requires routing { IsRouting steps.now.nodes steps.now.arcs
@@ -239,21 +263,24 @@ fn send_once(
         amounts.new numbers.new over.new want.new) }
     ensures kept { IfOk result (λ _. IsKept steps.now.nodes steps.now.arcs steps.now.list.items
         amounts.old over.old want.old amounts.new over.new want.new) }
+    ensures blank { IfOk result (λ _.
+        IsBlank steps.now.nodes tree.new.entries.items tree.new.places.items) }
     ensures fewer { IfOk result (λ _. slice_index over.new node < slice_index over.old node) }
     ensures less { IfOk result (λ _. (v : ℕ) → slice_index over.new v ≤ slice_index over.old v) }
 {
-    let tree = find(
-        alloc,
+    find(
         node,
         over[node as usize],
         steps,
         amounts,
         numbers,
         want,
+        tree,
     )?;
     let last = tree.entries[tree.entries.len() - 1];
     let amount = last.room.min(want[last.node as usize]);
-    send(steps, numbers, &tree, amount, amounts);
+    send(steps, numbers, tree, amount, amounts);
+    clear(steps.nodes, tree);
     over[node as usize] -= amount;
     want[last.node as usize] -= amount;
     Ok(())

@@ -13,14 +13,18 @@ ghost use Rattle.diff_flow.specs.inner.Search.{
   AreFit,
   ArePassed,
   ArePassedFrom,
+  ArePlaced,
   entry_at,
   Grows,
+  IsBlank,
   IsEntered,
   IsLeastLeaving,
   IsLesser,
   IsPassable,
   IsPassed,
   IsRoom,
+  IsSeen,
+  IsSeenBefore,
   IsTrap,
   IsTree,
   NoneLacks,
@@ -50,66 +54,90 @@ pub(crate) struct Tree {
     pub(crate) places: Vec<u32>,
 }
 
+impl Tree {
+    /// A tree without nodes, which has room for all.
+    pub(crate) fn blank(alloc: Global, nodes: u32) -> Result<Tree, NoMemory>
+        ensures blank { IfOk result (λ tree. IsBlank nodes tree.entries.items tree.places.items) }
+    {
+        Ok(Tree {
+            entries: Vec::with_capacity(alloc, nodes as usize)?,
+            places: vec![in alloc; 0u32; nodes as usize]?,
+        })
+    }
+}
+
 /// Finds a way from `start` to a node that lacks, along which up to `most` can be sent; raises
 /// numbers where no way is tight. The last entry is the node that lacks.
 pub(crate) fn find(
-    alloc: Global,
     start: u32,
     most: u128,
     steps: &Steps,
     amounts: &[u128],
     numbers: &mut [u64],
     want: &[u128],
-) -> Result<Tree, NoMemory>
+    tree: &mut Tree,
+) -> Result<(), NoMemory>
     requires start { start < steps.now.nodes }
     requires some { 0 < most }
     requires amounts { length amounts.now ≡ steps.now.arcs }
     requires wants { length want.now ≡ steps.now.nodes }
+    requires blank { IsBlank steps.now.nodes tree.old.entries.items tree.old.places.items }
     requires fit { AreFit steps.now.nodes ((steps.now.nodes - 1) * steps.now.reach)
         steps.now.list.items amounts.now numbers.old want.now }
     requires no_trap { (marks : ℕ → ℕ) →
         IsTrap steps.now.nodes steps.now.arcs steps.now.list.items amounts.now want.now start marks
         → ⊥ }
-    ensures tree { IfOk result (λ tree. IsTree steps.now.nodes steps.now.list.items
-        amounts.now numbers.new tree.entries.items tree.places.items) }
-    ensures start { IfOk result (λ tree. (entry_at tree.entries.items 0).node ≡ start) }
-    ensures most { IfOk result (λ tree. (entry_at tree.entries.items 0).room ≡ most) }
-    ensures lacks { IfOk result (λ tree. 0 < slice_index want.now
-        (entry_at tree.entries.items (length tree.entries.items - 1)).node) }
+    ensures tree { IfOk result (λ _. IsTree steps.now.nodes steps.now.list.items
+        amounts.now numbers.new tree.new.entries.items tree.new.places.items) }
+    ensures start { IfOk result (λ _. (entry_at tree.new.entries.items 0).node ≡ start) }
+    ensures most { IfOk result (λ _. (entry_at tree.new.entries.items 0).room ≡ most) }
+    ensures lacks { IfOk result (λ _. 0 < slice_index want.now
+        (entry_at tree.new.entries.items (length tree.new.entries.items - 1)).node) }
     ensures fit { IfOk result (λ _. AreFit steps.now.nodes
         ((steps.now.nodes - 1) * steps.now.reach)
         steps.now.list.items amounts.now numbers.new want.now) }
 {
-    let mut tree = plant(alloc, start, most, steps.nodes)?;
+    plant(start, most, steps.nodes, tree)?;
     let mut found = want[start as usize] > 0;
     while !found {
-        found = grow(steps, amounts, numbers, want, &mut tree)?;
+        found = grow(steps, amounts, numbers, want, tree)?;
     }
-    Ok(tree)
+    Ok(())
 }
 
-/// A tree of one node.
-pub(crate) fn plant(alloc: Global, start: u32, most: u128, nodes: u32) -> Result<Tree, NoMemory>
+/// Makes a tree without nodes one of one node.
+pub(crate) fn plant(start: u32, most: u128, nodes: u32, tree: &mut Tree) -> Result<(), NoMemory>
     requires start { start < nodes }
     requires some { 0 < most }
-    ensures one { IfOk result (λ tree. length tree.entries.items ≡ 1) }
-    ensures start { IfOk result (λ tree. (entry_at tree.entries.items 0).node ≡ start) }
-    ensures most { IfOk result (λ tree. (entry_at tree.entries.items 0).room ≡ most) }
-    ensures tree { (steps : List Step) (amounts numbers : List ℕ) → IfOk result (λ tree.
-        IsTree nodes steps amounts numbers tree.entries.items tree.places.items) }
-    ensures places { IfOk result (λ tree.
-        (v : ℕ) → 0 < slice_index tree.places.items v → v ≡ start) }
+    requires blank { IsBlank nodes tree.old.entries.items tree.old.places.items }
+    ensures one { IfOk result (λ _. length tree.new.entries.items ≡ 1) }
+    ensures start { IfOk result (λ _. (entry_at tree.new.entries.items 0).node ≡ start) }
+    ensures most { IfOk result (λ _. (entry_at tree.new.entries.items 0).room ≡ most) }
+    ensures tree { (steps : List Step) (amounts numbers : List ℕ) → IfOk result (λ _.
+        IsTree nodes steps amounts numbers tree.new.entries.items tree.new.places.items) }
+    ensures places { IfOk result (λ _.
+        (v : ℕ) → 0 < slice_index tree.new.places.items v → v ≡ start) }
 {
-    let mut places = vec![in alloc; 0u32; nodes as usize]?;
-    places[start as usize] = 1;
-    let mut entries = Vec::new(alloc);
-    entries.push(Reached {
+    tree.entries.push(Reached {
         node: start,
         parent: 0,
         step: 0,
         room: most,
     })?;
-    Ok(Tree { entries, places })
+    tree.places[start as usize] = 1;
+    Ok(())
+}
+
+/// Takes all nodes out of the tree.
+pub(crate) fn clear(nodes: u32, tree: &mut Tree)
+    requires { ArePlaced nodes tree.old.entries.items tree.old.places.items }
+    ensures { IsBlank nodes tree.new.entries.items tree.new.places.items }
+{
+    for at in 0..tree.entries.len() {
+        let node = tree.entries[at].node;
+        tree.places[node as usize] = 0;
+    }
+    tree.entries.clear();
 }
 
 /// Reaches more nodes over tight steps, and raises numbers where no node that lacks is among them;
@@ -348,10 +376,10 @@ fn turn(
     ensures found { IfOk result (Searches want.now tree.old.entries.items tree.new.entries.items
         tree.new.places.items) }
 {
-    let Some(leaving) = least_leaving(steps, numbers, tree.places.as_slice()) else {
+    let Some(leaving) = least_leaving(steps, numbers, tree) else {
         unreachable!()
     };
-    raise_reached(leaving.slack, tree.places.as_slice(), numbers);
+    raise_reached(leaving.slack, tree, numbers);
     let k = leaving.step as usize;
     enter(k, steps, amounts, tree)?;
     Ok(want[steps.at(k).to as usize] > 0)
@@ -366,8 +394,35 @@ struct Leaving {
 }
 
 /// Of the steps along arcs from a reached node to one that is not the one with the least slack;
-/// `None` exactly where there is none.
-fn least_leaving(steps: &Steps, numbers: &[u64], places: &[u32]) -> Option<Leaving>
+/// `None` exactly where there is none. Only the steps of reached nodes are looked at.
+fn least_leaving(steps: &Steps, numbers: &[u64], tree: &Tree) -> Option<Leaving>
+    requires numbers { length numbers.now ≡ steps.now.nodes }
+    requires placed { ArePlaced steps.now.nodes tree.now.entries.items tree.now.places.items }
+    requires low { (v : ℕ) → v < steps.now.nodes → height numbers.now v ≤ 2 ^ 60 }
+    requires met { (k : ℕ) → k < steps.now.arcs →
+        height numbers.now (step_at steps.now.list.items k).from
+        + (step_at steps.now.list.items k).up
+        ≤ height numbers.now (step_at steps.now.list.items k).to }
+    ensures { IsLeastLeaving (λ k. k < steps.now.arcs) steps.now.arcs steps.now.list.items
+        numbers.now tree.now.places.items result }
+{
+    let mut least = None;
+    for at in 0..tree.entries.len() {
+        let node = tree.entries[at].node;
+        least = lesser_from(node, steps, numbers, tree.places.as_slice(), least);
+    }
+    least
+}
+
+/// The lesser of the step given and the steps of the node that leave the reached nodes.
+fn lesser_from(
+    node: u32,
+    steps: &Steps,
+    numbers: &[u64],
+    places: &[u32],
+    least: Option<Leaving>,
+) -> Option<Leaving>
+    requires node { node < steps.now.nodes }
     requires numbers { length numbers.now ≡ steps.now.nodes }
     requires places { length places.now ≡ steps.now.nodes }
     requires low { (v : ℕ) → v < steps.now.nodes → height numbers.now v ≤ 2 ^ 60 }
@@ -375,14 +430,19 @@ fn least_leaving(steps: &Steps, numbers: &[u64], places: &[u32]) -> Option<Leavi
         height numbers.now (step_at steps.now.list.items k).from
         + (step_at steps.now.list.items k).up
         ≤ height numbers.now (step_at steps.now.list.items k).to }
-    ensures { IsLeastLeaving steps.now.arcs steps.now.arcs steps.now.list.items numbers.now
-        places.now result }
+    ensures { (at : ℕ) → IsLeastLeaving (IsSeenBefore steps.now.list.items places.now at)
+        steps.now.arcs steps.now.list.items numbers.now places.now least →
+        IsLeastLeaving (IsSeen steps.now.list.items places.now at node 0)
+        steps.now.arcs steps.now.list.items numbers.now places.now result }
 {
-    let mut least = None;
-    for k in 0..steps.arcs {
-        least = lesser_leaving(k, steps, numbers, places, least);
+    let mut lesser = least;
+    let mut entry = steps.rows.last[node as usize];
+    while entry > 0 {
+        let k = entry as usize - 1;
+        lesser = lesser_leaving(k, steps, numbers, places, lesser);
+        entry = steps.rows.before[k];
     }
-    least
+    lesser
 }
 
 /// The lesser of the step given and step `k`, where that leaves the reached nodes.
@@ -393,18 +453,24 @@ fn lesser_leaving(
     places: &[u32],
     least: Option<Leaving>,
 ) -> Option<Leaving>
-    requires inside { k < steps.now.arcs }
+    requires inside { k < length steps.now.list.items }
     requires numbers { length numbers.now ≡ steps.now.nodes }
     requires places { length places.now ≡ steps.now.nodes }
     requires low { (v : ℕ) → v < steps.now.nodes → height numbers.now v ≤ 2 ^ 60 }
-    requires met { height numbers.now (step_at steps.now.list.items k).from
-        + (step_at steps.now.list.items k).up
-        ≤ height numbers.now (step_at steps.now.list.items k).to }
-    requires least { IsLeastLeaving k steps.now.arcs steps.now.list.items numbers.now
-        places.now least }
-    ensures { IsLeastLeaving (k + 1) steps.now.arcs steps.now.list.items numbers.now
-        places.now result }
+    requires met { (i : ℕ) → i < steps.now.arcs →
+        height numbers.now (step_at steps.now.list.items i).from
+        + (step_at steps.now.list.items i).up
+        ≤ height numbers.now (step_at steps.now.list.items i).to }
+    ensures { (at : ℕ) → IsLeastLeaving (IsSeen steps.now.list.items places.now at
+        (step_at steps.now.list.items k).from (k + 1))
+        steps.now.arcs steps.now.list.items numbers.now places.now least →
+        IsLeastLeaving (IsSeen steps.now.list.items places.now at
+        (step_at steps.now.list.items k).from k)
+        steps.now.arcs steps.now.list.items numbers.now places.now result }
 {
+    if k >= steps.arcs {
+        return least;
+    }
     let step = steps.at(k);
     if places[step.from as usize] == 0 || places[step.to as usize] > 0 {
         return least;
@@ -431,23 +497,23 @@ fn lesser(other: Leaving, step: u32, slack: u64) -> Leaving
 }
 
 /// Raises the numbers of the reached nodes.
-fn raise_reached(by: u64, places: &[u32], numbers: &mut [u64])
+fn raise_reached(by: u64, tree: &Tree, numbers: &mut [u64])
     requires by { by ≤ 2 ^ 60 }
-    requires places { length places.now ≡ length numbers.old }
+    requires placed { ArePlaced (length numbers.old) tree.now.entries.items tree.now.places.items }
     requires low { (v : ℕ) → v < length numbers.old → height numbers.old v ≤ 2 ^ 60 }
-    ensures { Raises places.now numbers.old numbers.new by }
+    ensures { Raises tree.now.places.items numbers.old numbers.new by }
 {
-    for v in 0..places.len() {
-        numbers[v] = raised(numbers[v], places[v], by);
+    for at in 0..tree.entries.len() {
+        let node = tree.entries[at].node;
+        numbers[node as usize] = raised(numbers[node as usize], by);
     }
 }
 
-/// The number, raised where its node was reached.
-fn raised(number: u64, place: u32, by: u64) -> u64
+/// The raised number.
+fn raised(number: u64, by: u64) -> u64
     requires by { by ≤ 2 ^ 60 }
     requires low { number ≤ 2 ^ 60 }
-    ensures reached { 0 < place → result ≡ number + by }
-    ensures other { place ≡ 0 → result ≡ number }
+    ensures { result ≡ number + by }
 {
-    if place > 0 { by + number } else { number }
+    by + number
 }

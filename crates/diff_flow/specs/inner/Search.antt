@@ -69,6 +69,21 @@ pub record IsTree (nodes : ℕ) (steps : List Step) (amounts numbers : List ℕ)
       (entry_at tree (slice_index places v - 1)).node ≡ v
   pub count : sum_by (λ x. min 1 x) places ≡ length tree
 
+-- the places are those of the entries' nodes
+pub record ArePlaced (nodes : ℕ) (tree : List Reached) (places : List ℕ) : Type 0 where
+  pub one_for_each : length places ≡ nodes
+  pub inside : (j : ℕ) → j < length tree → (entry_at tree j).node < nodes
+  pub at_place : (j : ℕ) → j < length tree → slice_index places (entry_at tree j).node ≡ j + 1
+  pub within : (v : ℕ) → v < nodes → slice_index places v ≤ length tree
+  pub placed : (v : ℕ) → v < nodes → 0 < slice_index places v →
+      (entry_at tree (slice_index places v - 1)).node ≡ v
+
+-- no node was reached yet
+pub record IsBlank (nodes : ℕ) (tree : List Reached) (places : List ℕ) : Type 0 where
+  pub none : tree ≡ []
+  pub one_for_each : length places ≡ nodes
+  pub zeros : (v : ℕ) → slice_index places v ≡ 0
+
 -- what was reached stays so
 pub record Grows (tree : List Reached) (places : List ℕ) (tree' : List Reached)
     (places' : List ℕ) : Type 0 where
@@ -126,13 +141,22 @@ pub record IsLeaving (arcs : ℕ) (steps : List Step) (numbers places : List ℕ
   pub just : height numbers (step_at steps k).to
       ≡ height numbers (step_at steps k).from + (step_at steps k).up + slack
 
--- of the first so many steps the one that leaves with the least slack, or none
-abbrev pub IsLeastLeaving : ℕ → ℕ → List Step → List ℕ → List ℕ → Option Leaving → Type 0
-IsLeastLeaving count arcs steps numbers places None =
-    (k slack : ℕ) → k < count → IsLeaving arcs steps numbers places k slack → ⊥
-IsLeastLeaving count arcs steps numbers places (Some leaving) =
+-- the step begins at one of the first so many entries
+abbrev pub IsSeenBefore : List Step → List ℕ → ℕ → ℕ → Type 0
+IsSeenBefore steps places at k = slice_index places (step_at steps k).from ≤ at
+
+-- the step begins at one of the first so many entries, or is one of the node's from an entry on
+abbrev pub IsSeen : List Step → List ℕ → ℕ → ℕ → ℕ → ℕ → Type 0
+IsSeen steps places at node entry k =
+    IsSeenBefore steps places at k ⊎ (((step_at steps k).from ≡ node) × (entry ≤ k))
+
+-- of the steps that were seen the one that leaves with the least slack, or none
+abbrev pub IsLeastLeaving : (ℕ → Type 0) → ℕ → List Step → List ℕ → List ℕ → Option Leaving → Type 0
+IsLeastLeaving seen arcs steps numbers places None =
+    (k slack : ℕ) → seen k → IsLeaving arcs steps numbers places k slack → ⊥
+IsLeastLeaving seen arcs steps numbers places (Some leaving) =
     IsLeaving arcs steps numbers places leaving.step leaving.slack
-    × ((k slack : ℕ) → k < count → IsLeaving arcs steps numbers places k slack →
+    × ((k slack : ℕ) → seen k → IsLeaving arcs steps numbers places k slack →
     leaving.slack ≤ slack)
 
 -- one of the two, with a slack of at most that of both

@@ -93,3 +93,11 @@ Meets numbers step = numbers step.from + step.up ≤ numbers step.to + step.down
 abbrev pub AreMet : List Step → List ℕ → (ℕ → ℕ) → Type 0
 AreMet steps amounts numbers =
     (k : ℕ) → k < length steps → IsOpen amounts (step_at steps k) → Meets numbers (step_at steps k)
+
+-- the steps along all arcs in topological order: those that end at a node stand before those that
+-- begin there
+pub record AreInOrder (arcs : ℕ) (steps : List Step) (order : List ℕ) : Type 0 where
+  pub inside : (j : ℕ) → j < length order → slice_index order j < arcs
+  pub has_each : (k : ℕ) → k < arcs → (j : ℕ) × (j < length order) × (slice_index order j ≡ k)
+  pub ends_before : (i j : ℕ) → i < length order → j < length order →
+      (step_at steps (slice_index order j)).to ≡ (step_at steps (slice_index order i)).from → j < i

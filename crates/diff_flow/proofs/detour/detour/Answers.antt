@@ -9,13 +9,13 @@ use Rattle.diff_flow.proofs.DetourLemmas.{way_open, detour_done, lacking_is, oth
 use Rattle.diff_flow.proofs.detour.detour.Goals as goal
 
 pub spread-requires-clause-tree : goal.spread-requires-clause-tree
-spread-requires-clause-tree c = c.in_ok-tree.ensures.tree c.args.steps.now.list.items _ c.args.numbers.now
+spread-requires-clause-tree c = c.in_ok-plant.ensures.tree c.args.steps.now.list.items _ c.args.numbers.now
 
 pub spread-requires-clause-none : goal.spread-requires-clause-none
 spread-requires-clause-none c = λ v some.
     let steps = c.args.steps.now in
     let zeros = c.in_ok-want.ensures.items_if_clones_equal (λ y is. is) in
-    let is : v ≡ (step_at steps.list.items c.args.i).from = c.in_ok-tree.ensures.places v some ∙ ap (λ (s : Step). s.from) c.at-step.ensures.is in
+    let is : v ≡ (step_at steps.list.items c.args.i).from = c.in_ok-plant.ensures.places v some ∙ ap (λ (s : Step). s.from) c.at-step.ensures.is in
     let to : c.at-step.result.to ≡ (step_at steps.list.items c.args.i).to = ap (λ (s : Step). s.to) c.at-step.ensures.is in
     let none = other_has steps.nodes c.at-step.result.to v
     (λ same. ends_apart steps.arcs steps.list.items c.args.amounts.now c.args.numbers.now c.args.i c.requires.slack (sym is ∙ same ∙ to)) in
@@ -29,9 +29,9 @@ unreachable-requires c =
     let zeros = c.in_ok-want.ensures.items_if_clones_equal (λ y is. is) in
     let from : c.at-step.result.from ≡ (step_at steps.list.items c.args.i).from = ap (λ (s : Step). s.from) c.at-step.ensures.is in
     let to : c.at-step.result.to ≡ (step_at steps.list.items c.args.i).to = ap (λ (s : Step). s.to) c.at-step.ensures.is in
-    let kept = c.in_ok-spread.ensures.grows.kept 0 (omega (arith, c.in_ok-tree.ensures.one)) in
+    let kept = c.in_ok-spread.ensures.grows.kept 0 (omega (arith, c.in_ok-plant.ensures.one)) in
     let first : (entry_at c.spread.new.tree.entries.items 0).node ≡ (step_at steps.list.items c.args.i).from =
-    ap (λ (e : Reached). e.node) kept ∙ c.in_ok-tree.ensures.start ∙ from in
+    ap (λ (e : Reached). e.node) kept ∙ c.in_ok-plant.ensures.start ∙ from in
     let lacks = by_false _ _ _ c.if-not-branch.true c.in_ok-spread.ensures.found in
     way_open steps.nodes steps.arcs steps.reach steps.list.items c.args.amounts.now c.args.numbers.now c.args.i steps.within steps.paired
     c.requires.amounts c.requires.slack best.0 c.spread.new.tree.entries.items c.spread.new.tree.places.items best.1 best.2
@@ -54,9 +54,9 @@ returns c =
     let zeros = c.in_ok-want.ensures.items_if_clones_equal (λ y is. is) in
     let from : c.at-step.result.from ≡ (step_at steps.list.items c.args.i).from = ap (λ (s : Step). s.from) c.at-step.ensures.is in
     let to : c.at-step.result.to ≡ (step_at steps.list.items c.args.i).to = ap (λ (s : Step). s.to) c.at-step.ensures.is in
-    let kept = c.in_ok-spread.ensures.grows.kept 0 (omega (arith, c.in_ok-tree.ensures.one)) in
+    let kept = c.in_ok-spread.ensures.grows.kept 0 (omega (arith, c.in_ok-plant.ensures.one)) in
     let first : (entry_at c.spread.new.tree.entries.items 0).node ≡ (step_at steps.list.items c.args.i).from =
-    ap (λ (e : Reached). e.node) kept ∙ c.in_ok-tree.ensures.start ∙ from in
+    ap (λ (e : Reached). e.node) kept ∙ c.in_ok-plant.ensures.start ∙ from in
     let found = by_true _ _ _ c.if-not-branch.false c.in_ok-spread.ensures.found in
     let wants = c.as_slice.ensures.value ∙ ap (λ (xs : List ℕ). set xs c.at-step.result.to 1) zeros in
     let last : (entry_at c.spread.new.tree.entries.items (length c.spread.new.tree.entries.items - 1)).node ≡ (step_at steps.list.items c.args.i).to =

@@ -9,6 +9,7 @@ pub send_all-requires : goal.send_all-requires
 send_all-requires c =
     let steps = c.args.steps.now in
     record {
+      blank = c.requires.blank;
       routing = routing_first steps.nodes steps.arcs ((steps.nodes - 1) * steps.reach) steps.list.items c.requires.given.0 c.drop_all.new.amounts
           c.args.numbers.now c.drop_all.new.over c.drop_all.new.want steps.paired c.requires.numbers c.requires.limit c.requires.met
           c.requires.given.1 c.drop_all.ensures.dropped (c.drop_all.ensures.kept c.requires.given.0 c.requires.given.2);

@@ -7,13 +7,13 @@ use Rattle.diff_flow.proofs.search.find.Goals as goal
 pub loop-found-init : goal.loop-found-init
 loop-found-init c =
     let steps = c.args.steps.now in
-    let planted = c.in_ok-tree.ensures in
+    let planted = c.in_ok-plant.ensures in
     record {
       tree = planted.tree steps.list.items c.args.amounts.now c.args.numbers.now;
       fit = c.requires.fit;
       start = planted.start;
       most = planted.most;
-      search = planted_search c.args.want.now c.in_ok-tree.tree.entries.items c.in_ok-tree.tree.places.items c.args.start
+      search = planted_search c.args.want.now c.plant.new.tree.entries.items c.plant.new.tree.places.items c.args.start
           planted.one planted.start planted.places;
     }
 

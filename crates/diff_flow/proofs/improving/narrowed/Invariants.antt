@@ -1,5 +1,0 @@
-use Rattle.std.proofs.Common.{◌≡◌, take}
-use Rattle.diff_flow.proofs.improving.narrowed.Given as goal
-
-abbrev pub invariant-loop-amount : goal.invariant-loop-amount
-invariant-loop-amount l = l.list.items ≡ take l.amount-index l.amounts
