@@ -7,6 +7,6 @@ pub mod TightKeys
 pub mod Minima
 pub mod LeastKeys
 pub mod LowKeys
-pub mod RaisingLemmas
+pub mod SolvingLemmas
 pub mod StartLemmas
 pub mod Laws

@@ -1,5 +1,5 @@
 -- A flow of the choices before the last one, on the graphs with the last.
-use Rattle.std.proofs.Common.{◌≡◌, ℕ, suc, ◌<◌, inl, inr, ℤ, pos, Bool, true, false, Some, None, List, [], ◌∷◌, ◌++◌, length, refl, sym, ap, subst, ◌∙◌, arith, append_assoc}
+use Rattle.std.proofs.Common.{◌≡◌, ℕ, suc, ◌<◌, ◌≤◌, inl, inr, ℤ, pos, Bool, true, false, Some, None, List, [], ◌∷◌, ◌++◌, length, refl, sym, ap, subst, ◌∙◌, arith, append_assoc}
 use Rattle.std.specs.Prelude.{◌-ℤ◌, if◌then◌else◌}
 use Rattle.std.specs.List.{cons_option}
 use Rattle.std.proofs.lemmas.Int.{ints}
@@ -23,8 +23,8 @@ use Rattle.shape_graphs.specs.Backings.{DoBack, flow_of}
 use Rattle.shape_graphs.specs.Flows.{amount_at, at_node, Balances, IsFlowOn, net}
 use Rattle.shape_graphs.specs.Graphs.{arcs_of, choice_arc_along, choice_arcs, IsGraphOf, piece_arcs, side_arc}
 use Rattle.shape_graphs.specs.Measures.{BacksBefore}
-use Rattle.potentials.specs.inner.Raising.{BalancesOn, IsBegun}
-use Rattle.potentials.specs.inner.Raising.IsBegun.{on_all, on_all_but_last}
+use Rattle.potentials.specs.inner.Solving.{BalancesOn, IsBegun}
+use Rattle.potentials.specs.inner.Solving.IsBegun.{on_all, on_all_but_last}
 
 -- nothing is nothing at every node
 nothing_at : (a b : ℕ) → at_node a b (pos 0) ≡ pos 0
@@ -90,6 +90,13 @@ begun_longer graph flow (on_all_but_last arcs last are no_pull amounts balances)
       balances = subst (λ (a : List Arc). Balances graph.nodes a (flow.amounts ++ 0 ∷ [])) (sym are)
           (longer_balances arcs last flow.amounts amounts graph.nodes no_pull balances);
     })
+
+-- the flow, where it has an amount for every arc
+pub begun_whole : (graph : DiffGraph) (flow : Flow) → IsBegun graph flow → length graph.arcs ≤ length flow.amounts → BalancesOn graph flow
+begun_whole graph flow (on_all balances) enough = balances
+begun_whole graph flow (on_all_but_last arcs last are no_pull amounts balances) enough =
+    let longer = ap (λ (a : List Arc). length a) are in
+    absurd (omega (arith, enough, longer, length_push arcs last, amounts.one_for_each))
 
 -- a flow that backs a verdict on the choices before the last begins one on all
 module _ (shape : Shape) (choices : List Choice) (start : Flows) (back : BacksBefore (DoBack shape) choices start)

@@ -1,1 +1,1 @@
-pub mod Raising
+pub mod Solving

@@ -7,7 +7,7 @@
 
 mod keys;
 mod law;
-mod raising;
+mod ready;
 mod standing;
 mod total_length;
 

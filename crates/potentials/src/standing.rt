@@ -5,7 +5,7 @@ ghost use Rattle.compact_types.specs.declared.places.Axis.TheVariants as axis;
 ghost use Rattle.bars.specs.Segments.{node_count, node_of};
 ghost use Rattle.diff_flow.specs.Tight.{number_at};
 ghost use Rattle.potentials.specs.Standing.{StandAt};
-ghost use Rattle.potentials.specs.inner.Raising.{numbers_along};
+ghost use Rattle.potentials.specs.inner.Solving.{numbers_along};
 
 use bars::Bars;
 use compact_types::{Items, NoMemory, Places, Point};

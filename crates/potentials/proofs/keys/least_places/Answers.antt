@@ -1,5 +1,5 @@
 use Rattle.compact_types.specs.declared.places.Axis.TheVariants.{X, Y}
-use Rattle.potentials.proofs.RaisingLemmas.{none_tight_at, least_places_at}
+use Rattle.potentials.proofs.SolvingLemmas.{none_tight_at, least_places_at}
 use Rattle.potentials.proofs.keys.least_places.Goals as goal
 
 pub returns-in-None : goal.returns-in-None

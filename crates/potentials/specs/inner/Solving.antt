@@ -1,15 +1,14 @@
--- What is known of the graphs and flows while a solver raises bounds.
-use Rattle.std.specs.Prelude.{◌≡◌, ℕ, ◌≤◌, pos, ℤ, ◌+ℤ◌, List, [], ◌∷◌, ◌++◌, length}
+-- What is known of the graphs and flows of a solver.
+use Rattle.std.specs.Prelude.{◌≡◌, ℕ, ◌≤◌, pos, ℤ, List, [], ◌∷◌, ◌++◌, length}
 use Rattle.compact_types.specs.declared.limits.TheConstants.{MOST_VERTICES}
 use Rattle.compact_types.specs.declared.places.Axis.{Axis}
 use Rattle.compact_types.specs.declared.places.Axis.TheVariants.{X, Y}
 use Rattle.compact_types.specs.declared.search.Flow.{Flow}
-use Rattle.compact_types.specs.declared.search.Flows.{Flows}
 use Rattle.shape_graphs.specs.declared.graph.Arc.{Arc}
 use Rattle.shape_graphs.specs.declared.graph.DiffGraph.{DiffGraph}
 use Rattle.shape_graphs.specs.Flows.{Balances, bound_of, IsFlowOn}
 use Rattle.shape_graphs.specs.Paths.{HasCycle}
-use Rattle.diff_flow.specs.Tight.{AreLeastTight, number_at}
+use Rattle.diff_flow.specs.Tight.{AreLeastTight, AreTight, number_at}
 
 -- the graph has at most as many nodes as a drawing has vertices, and no cycle
 pub record IsSolvable (graph : DiffGraph) : Type 0 where
@@ -29,6 +28,15 @@ pub data IsBegun (graph : DiffGraph) (flow : Flow) : Type 0 where
       last.pull ≡ pos 0 → IsFlowOn arcs flow.amounts →
       Balances graph.nodes arcs flow.amounts → IsBegun graph flow
 
+-- the flow balances on the graph, and its bound is this
+pub record IsBounded (graph : DiffGraph) (flow : Flow) (bound : ℤ) : Type 0 where
+  pub balances : BalancesOn graph flow
+  pub value : bound ≡ bound_of graph.arcs flow.amounts
+
+-- some numbers are tight for the flow
+abbrev pub HasTight : DiffGraph → Flow → Type 0
+HasTight graph flow = (numbers : ℕ → ℤ) × AreTight graph.nodes graph.arcs flow.amounts numbers
+
 -- one number for each node of the graph, the least that are tight for the flow
 pub record AreLeastNumbers (graph : DiffGraph) (flow : Flow) (numbers : List ℤ) : Type 0 where
   pub one_for_each : length numbers ≡ graph.nodes
@@ -38,8 +46,3 @@ pub record AreLeastNumbers (graph : DiffGraph) (flow : Flow) (numbers : List ℤ
 abbrev pub numbers_along : List ℤ → List ℤ → Axis → ℕ → ℤ
 numbers_along across up X node = number_at across node
 numbers_along across up Y node = number_at up node
-
--- the bounds of two flows on two graphs together
-abbrev pub both_bounds_of : DiffGraph → DiffGraph → Flows → ℤ
-both_bounds_of columns rows flows =
-    bound_of columns.arcs flows.x.amounts +ℤ bound_of rows.arcs flows.y.amounts

@@ -1,7 +1,8 @@
--- What is known of two flows while they are raised, and of the verdict in the end.
-use Rattle.std.proofs.Common.{◌≡◌, ℕ, ◌-◌, ◌^◌, ◌<◌, ℤ, pos, List, refl, sym, ap, subst, ◌∙◌, arith}
-use Rattle.std.specs.Prelude.{◌<ℤ◌, ◌≤ℤ◌}
+-- What is known of two flows of a solver, and of its verdict.
+use Rattle.std.proofs.Common.{◌≡◌, ℕ, ◌^◌, ◌≤◌, ℤ, pos, List, refl, sym, ap, subst, ◌∙◌, arith}
+use Rattle.std.specs.Prelude.{◌+ℤ◌, ◌<ℤ◌, ◌≤ℤ◌}
 use Rattle.std.proofs.lemmas.Int.{ints}
+use Rattle.compact_types.specs.declared.limits.TheConstants.{MOST_VERTICES}
 use Rattle.compact_types.specs.declared.places.Axis.{Axis}
 use Rattle.compact_types.specs.declared.places.Axis.TheVariants.{X, Y}
 use Rattle.compact_types.specs.declared.places.Key.{Key}
@@ -27,15 +28,12 @@ use Rattle.shape_graphs.specs.Flows.{Balances, bound_of, IsFlowOn}
 use Rattle.shape_graphs.specs.Graphs.{arcs_of, IsGraphOf}
 use Rattle.shape_graphs.specs.Measures.{HaveNoCycle, IsAsked, IsBacked, IsLeastKey, IsRight}
 use Rattle.shape_graphs.specs.Paths.{HasCycle}
-use Rattle.diff_flow.specs.declared.improving.Improved.{Improved}
-use Rattle.diff_flow.specs.declared.improving.Improved.TheVariants.{Raised, Best}
-use Rattle.diff_flow.specs.Improving.{IsImproved}
 use Rattle.diff_flow.specs.Tight.{AreTight, AreLeastTight, number_at}
-use Rattle.diff_flow.proofs.Laws.{nat, nat_is}
 use Rattle.potentials.specs.Standing.{StandAt}
 use Rattle.potentials.specs.TightPlaces.{AreTightPlaces, AreLeastTightPlaces}
-use Rattle.potentials.specs.inner.Raising.{BalancesOn, both_bounds_of, IsSolvable, numbers_along}
-use Rattle.potentials.proofs.Ceilings.{bound_from_zero, bound_most, bound_small, ceiling}
+use Rattle.potentials.specs.declared.ready.Bounded.{Bounded}
+use Rattle.potentials.specs.inner.Solving.{BalancesOn, IsBounded, IsSolvable, numbers_along}
+use Rattle.potentials.proofs.Ceilings.{bound_from_zero, bound_small}
 use Rattle.potentials.proofs.TightKeys.{worth_above, bound_at_tight, least_from_tight, least_tight_places, none_where_none}
 
 -- the verdict is right, as asked, and backed
@@ -43,6 +41,10 @@ pub record IsFull (shape : Shape) (choices : List Choice) (stop : ℤ) (verdict 
   pub right : IsRight total_length shape choices verdict
   pub asked : IsAsked stop verdict
   pub backed : IsBacked (DoBack shape choices) verdict
+
+pub full_same : (shape : Shape) (choices : List Choice) (stop : ℤ) (verdict other : Verdict Flows) → verdict ≡ other →
+    IsFull shape choices stop other → IsFull shape choices stop verdict
+full_same shape choices stop verdict other is full = subst (λ (v : Verdict Flows). IsFull shape choices stop v) (sym is) full
 
 -- the arcs of a graph make a graph
 pub graph_is : (graph : DiffGraph) → AreGraph graph.nodes graph.arcs
@@ -60,28 +62,6 @@ module _ (graph : DiffGraph) (flow : Flow) (solvable : IsSolvable graph) (balanc
     high = bound_small graph.nodes graph.arcs (graph_is graph) solvable.no_cycle flow.amounts balances.balances (omega (arith, solvable.few_nodes));
   }
 
-  -- it is at most the ceiling
-  pub below_ceiling : (bound_of graph.arcs flow.amounts) ≤ℤ pos (ceiling graph.nodes graph.arcs)
-  below_ceiling = bound_most graph.nodes graph.arcs (graph_is graph) solvable.no_cycle flow.amounts balances.balances
-
--- what an improvement does where no numbers are tight
-module _ (graph : DiffGraph) (before after : Flow) (none : (numbers : ℕ → ℤ) → AreTight graph.nodes graph.arcs before.amounts numbers → ⊥) where
-  pub rises : (improved : Improved) → IsImproved graph.nodes graph.arcs before.amounts after.amounts improved →
-      (bound_of graph.arcs before.amounts) <ℤ (bound_of graph.arcs after.amounts)
-  rises (Raised by) is = let some = is.some in let rise = is.rise in omega (arith, ints, some, rise)
-  rises Best is = absurd (none is.tight.0 is.tight.1)
-
-  pub stays_balanced : (improved : Improved) → IsImproved graph.nodes graph.arcs before.amounts after.amounts improved → BalancesOn graph after
-  stays_balanced (Raised by) is = record { amounts = is.flow; balances = is.balances }
-  stays_balanced Best is = absurd (none is.tight.0 is.tight.1)
-
--- the room below the ceiling falls
-pub falls : (top : ℕ) (before after : ℤ) → pos 0 ≤ℤ before → before <ℤ after → after ≤ℤ pos top → top - nat after < top - nat before
-falls top before after low rises high =
-    let a = nat_is before low in
-    let b = nat_is after (omega (arith, ints, low, rises)) in
-    omega (arith, ints, a, b, rises, high)
-
 -- neither graph has a cycle
 pub no_cycle_by_axis : (shape : Shape) (choices : List Choice) (columns rows : DiffGraph) → IsGraphOf X shape choices columns →
     IsGraphOf Y shape choices rows → (HasCycle columns.arcs → ⊥) → (HasCycle rows.arcs → ⊥) → HaveNoCycle shape choices
@@ -89,12 +69,9 @@ no_cycle_by_axis shape choices columns rows is_columns is_rows x y X cycle = x (
 no_cycle_by_axis shape choices columns rows is_columns is_rows x y Y cycle = y (subst (λ (arcs : List Arc). HasCycle arcs) (sym is_rows.arcs) cycle)
 
 module _ (shape : Shape) (choices : List Choice) (sound : IsSound shape) (fit : Fit shape choices) where
-  -- the graph of an axis, where no graph has a cycle
-  pub solvable_at : (axis : Axis) (graph : DiffGraph) → IsGraphOf axis shape choices graph → (HasCycle graph.arcs → ⊥) → IsSolvable graph
-  solvable_at axis graph is none = record {
-    few_nodes = let few = few_lines (other_axis axis) shape in let nodes = is.nodes in omega (arith, few, nodes, sound.few_vertices);
-    no_cycle = none;
-  }
+  -- the graph of an axis has at most as many nodes as a drawing has vertices
+  pub few_nodes_at : (axis : Axis) (graph : DiffGraph) → IsGraphOf axis shape choices graph → graph.nodes ≤ MOST_VERTICES
+  few_nodes_at axis graph is = let few = few_lines (other_axis axis) shape in let nodes = is.nodes in omega (arith, few, nodes, sound.few_vertices)
 
   module _ (axis : Axis) (graph : DiffGraph) (is : IsGraphOf axis shape choices graph) where
     pub tight_there : (amounts : List ℕ) (numbers : ℕ → ℤ) → AreTight (node_count axis shape) (arcs_of axis shape choices) amounts numbers →
@@ -129,12 +106,6 @@ module _ (shape : Shape) (choices : List Choice) (sound : IsSound shape) (fit : 
         none_where_none shape choices sound fit flows axis (λ numbers tight. none numbers (tight_there (flow_of axis flows).amounts numbers tight))
 
   module _ (columns rows : DiffGraph) (is_columns : IsGraphOf X shape choices columns) (is_rows : IsGraphOf Y shape choices rows) (flows : Flows) where
-    pub bounds_here : both_bounds_of columns rows flows ≡ bound_by shape choices flows
-    bounds_here =
-        let x = bound_here X columns is_columns flows.x.amounts in
-        let y = bound_here Y rows is_rows flows.y.amounts in
-        omega (arith, ints, x, y)
-
     -- the least numbers of both graphs are the least tight places
     pub least_places_at : (across up : List ℤ) (places : Places) → StandAt shape (numbers_along across up) places →
         AreLeastTight columns.nodes columns.arcs flows.x.amounts (number_at across) →
@@ -146,41 +117,51 @@ module _ (shape : Shape) (choices : List Choice) (sound : IsSound shape) (fit : 
         each X = least_here X columns is_columns flows.x.amounts (number_at across) x
         each Y = least_here Y rows is_rows flows.y.amounts (number_at up) y
 
-    module _ (x : BalancesOn columns flows.x) (y : BalancesOn rows flows.y) where
-      pub both_balanced : AreBalanced shape choices flows
-      both_balanced X = balanced_here X columns is_columns flows.x x
-      both_balanced Y = balanced_here Y rows is_rows flows.y y
+  module _ (columns rows : DiffGraph) (is_columns : IsGraphOf X shape choices columns) (is_rows : IsGraphOf Y shape choices rows) where
+    module _ (x y : Bounded) (x_is : IsBounded columns x.flow x.bound) (y_is : IsBounded rows y.flow y.bound) where
+      abbrev own : Flows
+      own = record { x = x.flow; y = y.flow }
+
+      bounds_here : x.bound +ℤ y.bound ≡ bound_by shape choices own
+      bounds_here =
+          let a = bound_here X columns is_columns x.flow.amounts in
+          let b = bound_here Y rows is_rows y.flow.amounts in
+          let c = x_is.value in
+          let d = y_is.value in
+          omega (arith, ints, a, b, c, d)
+
+      pub both_balanced : AreBalanced shape choices own
+      both_balanced X = balanced_here X columns is_columns x.flow x_is.balances
+      both_balanced Y = balanced_here Y rows is_rows y.flow y_is.balances
 
       -- a bound above the stop
-      pub full_above : HaveNoCycle shape choices → (stop : ℤ) → stop <ℤ (both_bounds_of columns rows flows) →
-          (verdict : Verdict Flows) → verdict ≡ Above (both_bounds_of columns rows flows) stop flows → IsFull shape choices stop verdict
-      full_above none stop passed verdict is = subst (λ (v : Verdict Flows). IsFull shape choices stop v) (sym is) (record {
+      pub full_above : HaveNoCycle shape choices → (stop : ℤ) → stop <ℤ (x.bound +ℤ y.bound) → IsFull shape choices stop (Above (x.bound +ℤ y.bound) stop own)
+      full_above none stop passed = record {
         right = record {
           no_cycle = none;
           above = passed;
           none_less = λ others solves.
-              let low = worth_above shape choices sound fit flows both_balanced others solves in
+              let low = worth_above shape choices sound fit own both_balanced others solves in
               let same = bounds_here in
               omega (arith, ints, low, same);
         };
         asked = refl;
         backed = record { balanced = both_balanced; sum = sym bounds_here };
-      })
+      }
 
       -- the key of the least tight places
-      pub full_least : HaveNoCycle shape choices → (stop : ℤ) → (both_bounds_of columns rows flows) ≤ℤ stop → (places : Places) →
-          AreLeastTightPlaces shape choices flows places → (verdict : Verdict Flows) →
-          verdict ≡ Least (record { worth = both_bounds_of columns rows flows; places = places }) flows → IsFull shape choices stop verdict
-      full_least none stop low places least verdict is =
-          let worth : worth_of total_length shape places ≡ both_bounds_of columns rows flows =
-          bound_at_tight shape choices sound fit flows both_balanced places least.tight.solves least.tight ∙ sym bounds_here in
-          let same : key_of total_length shape places ≡ record { worth = both_bounds_of columns rows flows; places = places } =
+      pub full_least : HaveNoCycle shape choices → (stop : ℤ) → (x.bound +ℤ y.bound) ≤ℤ stop → (places : Places) → AreLeastTightPlaces shape choices own places →
+          IsFull shape choices stop (Least (record { worth = x.bound +ℤ y.bound; places = places }) own)
+      full_least none stop low places least =
+          let worth : worth_of total_length shape places ≡ x.bound +ℤ y.bound =
+          bound_at_tight shape choices sound fit own both_balanced places least.tight.solves least.tight ∙ sym bounds_here in
+          let same : key_of total_length shape places ≡ record { worth = x.bound +ℤ y.bound; places = places } =
           same_key _ _ worth refl in
-          subst (λ (v : Verdict Flows). IsFull shape choices stop v) (sym is) (record {
+          record {
             right = record {
               no_cycle = none;
-              least = subst (λ (key : Key). IsLeastKey total_length shape choices key) same (least_from_tight shape choices sound fit flows both_balanced places least);
+              least = subst (λ (key : Key). IsLeastKey total_length shape choices key) same (least_from_tight shape choices sound fit own both_balanced places least);
             };
             asked = low;
             backed = record { balanced = both_balanced; sum = sym bounds_here };
-          })
+          }
