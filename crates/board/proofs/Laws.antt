@@ -1,0 +1,15 @@
+-- The laws of this crate as plain lemmas. The proofs of the crates above import this module alone.
+
+-- what stands after longer histories
+pub use Rattle.board.proofs.HistoryLaws.{replayed-append, all_fit-append, state_with, legal_with, same_count, known_stays, some_branch, choices_stay, settled_stays, first_choices}
+-- open branches
+pub use Rattle.board.proofs.OpenLaws.{open_inside, waiting_open, held_open, some_open, none_open, open_claimed, open_settled, nothing_opens_again}
+-- what a history tells of a branch
+pub use Rattle.board.proofs.TellingLaws.{told, holder_holds, held_claimed, held_not_settled}
+-- how much is left to do
+pub use Rattle.board.proofs.WorkLaws.{work_stays, work_falls}
+-- the facts of a board
+pub use Rattle.board.proofs.Keeping.{facts_opened, facts_enlisted, facts_claimed}
+pub use Rattle.board.proofs.SettledFacts.{facts_settled}
+pub use Rattle.board.proofs.FewChoices.{few_choices, few_choices_of}
+pub use Rattle.board.proofs.BestLaws.{none_open_is_best}

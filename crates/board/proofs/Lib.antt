@@ -1,0 +1,16 @@
+pub mod ChainLemmas
+pub mod StackLemmas
+pub mod HistoryLaws
+pub mod OpenLaws
+pub mod TellingLaws
+pub mod WorkLaws
+pub mod AfterLemmas
+pub mod FewChoices
+pub mod Covering
+pub mod Children
+pub mod Keeping
+pub mod SettledFacts
+pub mod BestLaws
+pub mod TableLemmas
+pub mod DotLemmas
+pub mod Laws

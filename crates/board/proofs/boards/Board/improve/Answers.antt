@@ -1,0 +1,17 @@
+use Rattle.std.proofs.Common.{sym, append-nil, arith}
+use Rattle.board.specs.declared.entries.Settled.TheVariants.{Improved}
+use Rattle.board.proofs.TableLemmas.{kept_roomier, kept_settled}
+use Rattle.board.proofs.boards.Board.improve.Goals as goal
+
+pub invariant_of-self : goal.invariant_of-self
+invariant_of-self g c =
+    let settling = rw (← c.self.view_is) at c.requires in
+    let best = rw (← c.self.view_is) at c.in_ok-key.ensures in
+    let enough = c.self.invariant.room_left in
+    let long = c.push_settled.ensures.len in
+    let full = c.push_settled.ensures.capacity in
+    rw (c.finish.ensures, c.push_settled.ensures.items)
+    (kept_roomier _ _ _ _ _ _
+    (kept_settled g.P.Backing.objective g.P.Backing.backs _ c.self.inside.branches _ c.args.who c.args.id c.args.verdict
+    Improved c.in_ok-key.key _ c.self.invariant settling (omega (arith, enough)) best (sym (append-nil _)))
+    (omega (arith, long, full)))
