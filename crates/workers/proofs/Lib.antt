@@ -1,0 +1,4 @@
+mod EndLemmas
+mod FirstLemmas
+mod PairLemmas
+mod TurnLemmas

@@ -1,0 +1,44 @@
+-- What a turn of a search with one worker keeps, and why the turns end.
+use Rattle.std.specs.Prelude.{◌≡◌, ℕ, ◌<◌, List}
+use Rattle.compact_types.specs.declared.plan.Shape.{Shape}
+use Rattle.compact_types.specs.declared.search.Choice.{Choice}
+use Rattle.compact_types.specs.Bests.{Objective}
+use Rattle.shape_graphs.specs.declared.measure.Verdict.{Verdict}
+use Rattle.board.specs.declared.entries.Settled.{Settled}
+use Rattle.board.specs.Boards.{BoardView, board_state, after_settle, IsCaller}
+use Rattle.board.specs.Facts.{AreFacts}
+use Rattle.board.specs.Histories.{State, IsHeldBy, open_count_of}
+use Rattle.board.specs.Works.{work_left}
+
+-- between two turns the board is one of the shape, the worker is a caller, and no branch is held
+pub record IsBetweenTurns {P : Type 0} (shape : Shape) (who : ℕ) (board : BoardView P) : Type 0 where
+  pub shape_kept : board.shape ≡ shape
+  pub caller : IsCaller board.given who
+  pub none_held : (id holder : ℕ) → IsHeldBy (board_state board) id holder → ⊥
+
+-- no branch has more choices: a shape has at most 1,000 segments
+unfoldable pub most_pairs : ℕ
+most_pairs = 499500
+
+-- the work that open branches may still make
+unfoldable pub work_ahead : State → ℕ
+work_ahead state = work_left most_pairs state
+
+-- a turn keeps what holds between turns, and leaves less work
+pub record IsAfterTurn {P : Type 0}
+    (shape : Shape) (who : ℕ) (old new : BoardView P) : Type 0 where
+  pub between : IsBetweenTurns shape who new
+  pub less_work : work_ahead (board_state new) < work_ahead (board_state old)
+
+-- the board is the old one after the caller has settled the branch by the verdict, with some outcome
+pub record IsSettledBy {P : Type 0} (objective : Objective)
+    (Backs : Shape → List Choice → P → Verdict P → Type 0)
+    (who id : ℕ) (verdict : Verdict P) (old new : BoardView P) : Type 0 where
+  pub what : Settled
+  pub settled : new ≡ after_settle old who id verdict what
+  pub facts : AreFacts objective Backs new
+
+-- the board is one of the shape, and every branch is settled
+pub record AreAllSettled {P : Type 0} (shape : Shape) (board : BoardView P) : Type 0 where
+  pub shape_kept : board.shape ≡ shape
+  pub none_open : open_count_of (board_state board) ≡ 0
