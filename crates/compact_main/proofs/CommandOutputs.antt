@@ -11,21 +11,21 @@ use Rattle.compact_main.specs.declared.drawing.Drawing.{Drawing}
 use Rattle.compact_main.specs.Drawings.{HoldsDrawing}
 use Rattle.compact_main.specs.Outputs.{DrawsBest, count_line, Output, IsValid}
 use Rattle.compact_main.specs.Summaries.{IsSummary, summary_text}
-use Rattle.compact_main.proofs.Leasts.{some_best}
+use Rattle.compact_main.proofs.BestDrawings.{some_best}
 use Rattle.compact_main.proofs.OneSummary.{one_summary, some_summary}
 use Rattle.compact_main.proofs.Sound.{sound_shape}
 use Rattle.compact_main.proofs.TextAnswers.{text_answer}
 
 -- an accepted text has an output
 pub some_output : (command : Command) (text : List ℕ) → IsValid command text → (written : List ℕ) × Output command text written
-some_output (commands.Draw pitch) text (drawing, input, settled) =
+some_output (commands.Draw pitch) text (drawing, input) =
     let sound = sound_shape drawing.tree drawing.reading drawing.shape input.holds.read input.holds.checked in
-    let (places, best) = some_best drawing.shape sound settled in
+    let (places, best) = some_best drawing.shape sound in
     let written = printed (placed drawing.tree drawing.reading.spots places pitch) in
-    let draws : DrawsBest drawing pitch places written = record { settled = settled; best = best; printed = refl } in
+    let draws : DrawsBest drawing pitch places written = record { best = best; printed = refl } in
     (written, (drawing, input, places, draws))
-some_output commands.Check text (drawing, input, any) = (count_line drawing.reading.plan, (drawing, input, refl))
-some_output commands.Measure text (drawing, input, any) =
+some_output commands.Check text (drawing, input) = (count_line drawing.reading.plan, (drawing, input, refl))
+some_output commands.Measure text (drawing, input) =
     let (summary, is) = some_summary drawing in
     (summary_text summary, (drawing, input, summary, is, refl))
 

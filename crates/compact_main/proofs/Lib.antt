@@ -7,7 +7,8 @@ pub mod Decisions
 pub mod Counts
 pub mod PairChoice
 pub mod PairSums
-pub mod Leasts
+pub mod Among
+pub mod BestDrawings
 pub mod Sound
 pub mod OneSummary
 pub mod CommandAnswers

@@ -1,21 +1,16 @@
 -- Two segments share a vertex or not, and the shape alone keeps them apart or not.
-use Rattle.std.proofs.Common.{◌≡◌, ◌↔◌, ℕ, zero, suc, ◌<◌, ◌≤◌, Bool, true, false, not, List, [], length, ◌⊎◌, inl, inr, refl, subst, sym, arith}
-use Rattle.std.specs.Prelude.{IsTrue}
+use Rattle.std.proofs.Common.{◌≡◌, ℕ, zero, suc, ◌<◌, ◌≤◌, List, [], ◌⊎◌, inl, inr, subst, arith}
 use Rattle.std.proofs.lemmas.Bool.{cases_eq, cases_lt}
 use Rattle.compact_types.specs.declared.plan.Shape.{Shape}
 use Rattle.compact_types.specs.declared.search.Choice.{Choice}
 use Rattle.bars.specs.Lines.{line_of}
 use Rattle.bars.specs.Segments.{segment_at, segment_count, IsOnSegment, ShareVertex, IsPair}
 use Rattle.bars.specs.Sides.{side_axis}
-use Rattle.bars.specs.Solutions.{Fit}
 use Rattle.shape_graphs.specs.Graphs.{side_arc, arcs_of}
 use Rattle.shape_graphs.specs.Separation.{IsKept, IsSeparated}
 use Rattle.shape_graphs.proofs.Laws.{path_decided}
-use Rattle.separation.specs.declared.sides.Reach.{Reach}
-use Rattle.separation.specs.Reaching.{IsReachOf, IsReach}
-use Rattle.compact_main.specs.Drawings.{IsSettled}
 use Rattle.compact_main.specs.Summaries.{IsSeparatedPair}
-use Rattle.compact_main.proofs.Decisions.{IsDecided, both, where_it_holds, Below, all_below}
+use Rattle.compact_main.proofs.Decisions.{IsDecided, both}
 
 -- some number below n has P, or none has
 some_below : (P : ℕ → Type 0) → ((i : ℕ) → IsDecided (P i)) → (n : ℕ) → IsDecided ((i : ℕ) × (i < n) × P i)
@@ -69,28 +64,3 @@ module _ (shape : Shape) where
 
   pub separated_pair_or_not : (s t : ℕ) → IsDecided (IsSeparatedPair shape s t)
   separated_pair_or_not s t = both (pair_or_not s t) (separated_or_not [] s t)
-
-  -- it keeps all pairs apart by itself, or not
-  pub settled_or_not : IsDecided (IsSettled shape)
-  settled_or_not = by (all_below (λ t. Below (λ s. IsPair shape s t → IsSeparated shape [] s t) t) (λ t. all_below (λ s. IsPair shape s t → IsSeparated shape [] s t)
-      (λ s. where_it_holds (pair_or_not s t) (separated_or_not [] s t)) t) (segment_count shape))
-    where
-      by : IsDecided (Below (λ t. Below (λ s. IsPair shape s t → IsSeparated shape [] s t) t) (segment_count shape)) → IsDecided (IsSettled shape)
-      by (inl all) = inl (λ s t pair. all t pair.in_shape s pair.in_order pair)
-      by (inr none) = inr (λ settled. none (λ t t_in s s_in pair. settled s t pair))
-
-  -- where nothing is chosen the choices fit
-  pub no_choice_fits : Fit shape []
-  no_choice_fits = record { few = omega arith; each = λ i none. absurd (omega (arith, none)) }
-
-  pub no_choice_reach : (reach : Reach) → IsReachOf shape [] reach → IsReach shape reach
-  no_choice_reach reach is = ([], no_choice_fits, is)
-
-  -- what a test of it says, turned round
-  pub if_open : (test : Bool) → IsTrue test ↔ IsSettled shape → not test ≡ true → IsSettled shape → ⊥
-  if_open true means is settled = absurd cc
-  if_open false means is settled = let both : false ≡ true = means.1 settled in cc
-
-  pub if_settled : (test : Bool) → IsTrue test ↔ IsSettled shape → not test ≡ false → IsSettled shape
-  if_settled true means is = means.0 refl
-  if_settled false means is = absurd cc

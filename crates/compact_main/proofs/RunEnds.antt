@@ -144,11 +144,6 @@ over_text left left' text given limit known read more = by_rest left' (subst (λ
     by_rest None r = absurd r
     by_rest (Some rest) r = let is : length text ≡ length given + length rest = ap length r ∙ length-append given rest in omega (arith, is, more)
 
-too_long : (command : Command) (text : List ℕ) → limit_of command < length text → FirstFault command text TooLong
-too_long (commands.Draw pitch) text long = long
-too_long commands.Check text long = long
-too_long commands.Measure text long = long
-
 -- a run whose text is too long
 module _ {S K : Type 0} (command : Command)
     (left : S → Option (List ℕ)) (read_faults : S → ℕ) (source source' : S) (held : K → Option (List ℕ)) (write_faults : K → ℕ) (out : K) where
@@ -163,7 +158,7 @@ module _ {S K : Type 0} (command : Command)
         asked = refl;
         read = takes left read_faults source source' command given read;
         to_the_end = λ other. absurd (other refl);
-        fault = too_long command given more;
+        fault = more;
       })
 
   pub long_run : (given : List ℕ) → Consumes (left source) (left source') given → limit_of command < length given →
@@ -185,7 +180,7 @@ module _ {S K : Type 0} (command : Command)
     completes = λ c whole asked told steady.
         let known = (given_text left read_faults source source' c whole told).0 in
         let first : FirstFault command whole TooLong =
-        too_long command whole (over_text (left source) (left source') whole given (limit_of command) known read more) in
+        over_text (left source) (left source') whole given (limit_of command) known read more in
         let one = command_answer command whole in
         subst (λ (k : Command). Completes k whole (Refused TooLong)) (sym asked) (record {
           done = λ valid. absurd (one.not_both tt TooLong valid first);

@@ -1,9 +1,11 @@
 -- What is known of the shape of a drawing that was read.
 use Rattle.std.proofs.Common.{◌<◌, ◌≤◌, sym, subst, arith}
 use Rattle.compact_types.specs.declared.limits.TheConstants.{MOST_VERTICES}
+use Rattle.compact_types.specs.declared.places.Places.{Places}
 use Rattle.compact_types.specs.declared.plan.Plan.{Plan}
 use Rattle.compact_types.specs.declared.plan.Shape.{Shape}
 use Rattle.compact_types.specs.Connected.{IsConnected}
+use Rattle.compact_types.specs.Drawings.{IsDrawing}
 use Rattle.gml_text.specs.declared.tree.Tree.{Tree}
 use Rattle.drawing_read.specs.declared.reading.Reading.{Reading}
 use Rattle.drawing_read.specs.Readings.{IsReading, IsWithinLimits}
@@ -27,6 +29,10 @@ sound_shape tree reading shape read is =
       few_vertices = subst (λ (p : Plan). p.vertices ≤ MOST_VERTICES) (sym is.same_plan) limits.few_vertices;
       drawable = (reading.places, record { crossing_free = is.crossing_free });
     }
+
+-- the places that were read are a drawing of it
+pub is_drawing : (plan : Plan) (places : Places) (shape : Shape) → IsShapeOf plan places shape → IsDrawing shape places
+is_drawing plan places shape is = record { crossing_free = is.crossing_free }
 
 pub few_segments_sound : (shape : Shape) → IsSound shape → segment_count shape ≤ MOST_VERTICES
 few_segments_sound shape sound = let few = few_segments shape sound.drawable in let most = sound.few_vertices in omega arith

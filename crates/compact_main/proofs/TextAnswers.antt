@@ -20,7 +20,7 @@ use Rattle.drawing_check.specs.Shapes.{IsShapeOf}
 use Rattle.drawing_check.proofs.Laws as shapes
 use Rattle.compact_main.specs.declared.drawing.Drawing.{Drawing}
 use Rattle.compact_main.specs.declared.status.Why.{Why}
-use Rattle.compact_main.specs.declared.status.Why.TheVariants.{TooLong, Gml, Draw, Shape, NotYet}
+use Rattle.compact_main.specs.declared.status.Why.TheVariants.{TooLong, Gml, Draw, Shape}
 use Rattle.compact_main.specs.Drawings.{HoldsDrawing, FirstTextFault}
 
 -- a reading can be checked
@@ -51,7 +51,6 @@ TreeFault tree TooLong = ⊥
 TreeFault tree (Gml fault) = ⊥
 TreeFault tree (Draw fault) = FirstDrawFault tree fault
 TreeFault tree (Shape fault) = (reading : Reading) × IsReading tree reading × HasShapeFault reading fault
-TreeFault tree NotYet = ⊥
 
 -- the two stages of a tree
 module _ (tree : Tree) where
@@ -74,7 +73,6 @@ module _ (tree : Tree) where
   tree_fault_back (Draw fault) first = inl (record { cause = fault; has_cause = first; is = refl })
   tree_fault_back (Shape fault) (reading, read, first) =
       inr (record { first = reading; cause = fault; has_first = read; has_cause = first; is = refl })
-  tree_fault_back NotYet none = absurd none
 
   tree_answer : HasOneAnswer (IsPart tree) (TreeFault tree)
   tree_answer = one_answer_alike {P = TreeStages} {R = IsPart tree} {Q = TreeFaults} {S = TreeFault tree}
@@ -100,7 +98,6 @@ module _ (text : List ℕ) where
   fault_in_tree tree (Gml fault) spelled none = absurd none
   fault_in_tree tree (Draw fault) spelled first = (tree, spelled, first)
   fault_in_tree tree (Shape fault) spelled (reading, read, first) = (tree, reading, spelled, read, first)
-  fault_in_tree tree NotYet spelled none = none
 
   text_fault : (why : Why) → TextFaults why → FirstTextFault text why
   text_fault why (inl of) = subst (FirstTextFault text) of.is of.has_cause
@@ -113,7 +110,6 @@ module _ (text : List ℕ) where
       inr (record { first = tree; cause = Draw fault; has_first = spelled; has_cause = first; is = refl })
   text_fault_back (Shape fault) (tree, reading, spelled, read, first) =
       inr (record { first = tree; cause = Shape fault; has_first = spelled; has_cause = (reading, read, first); is = refl })
-  text_fault_back NotYet none = absurd none
 
   pub text_answer : HasOneAnswer (HoldsDrawing text) (FirstTextFault text)
   text_answer = one_answer_alike {P = TextStages} {R = HoldsDrawing text} {Q = TextFaults} {S = FirstTextFault text}

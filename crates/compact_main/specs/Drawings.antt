@@ -1,6 +1,5 @@
 -- The drawing that a text holds, and why it holds none.
-use Rattle.std.specs.Prelude.{ℕ, List, []}
-use Rattle.compact_types.specs.declared.plan.Shape.{Shape}
+use Rattle.std.specs.Prelude.{ℕ, List}
 use Rattle.gml_text.specs.declared.tree.Tree.{Tree}
 use Rattle.gml_text.specs.Texts.{Spells}
 use Rattle.gml_text.specs.Faults as no_tree
@@ -9,7 +8,6 @@ use Rattle.drawing_read.specs.Readings.{IsReading}
 use Rattle.drawing_read.specs.Faults.{FirstDrawFault}
 use Rattle.drawing_check.specs.Shapes.{IsShapeOf}
 use Rattle.drawing_check.specs.Faults.{FirstShapeFault}
-use Rattle.shape_graphs.specs.Separation.{IsComplete}
 use Rattle.compact_main.specs.declared.drawing.Drawing.{Drawing}
 use Rattle.compact_main.specs.declared.status.Why.{Why}
 use Rattle.compact_main.specs.declared.status.Why.TheVariants as why
@@ -30,13 +28,3 @@ FirstTextFault text (why.Draw fault) = (tree : Tree) × Spells text tree × Firs
 FirstTextFault text (why.Shape fault) =
     (tree : Tree) × (reading : Reading) × Spells text tree × IsReading tree reading
     × FirstShapeFault reading.plan reading.places fault
-FirstTextFault text why.NotYet = ⊥
-
--- the shape alone keeps apart every pair of segments without a common vertex: no side is left to
--- choose
-abbrev pub IsSettled : Shape → Type 0
-IsSettled shape = IsComplete shape []
-
--- every shape
-abbrev pub IsAny : Shape → Type 0
-IsAny shape = Unit {0}

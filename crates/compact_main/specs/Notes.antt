@@ -22,7 +22,6 @@ use Rattle.drawing_check.specs.declared.fault.ShapeFault.TheVariants.{Disconnect
 use Rattle.compact_main.specs.declared.command.Command.{Command}
 use Rattle.compact_main.specs.declared.status.Why.{Why}
 use Rattle.compact_main.specs.declared.status.Why.TheVariants.{TooLong, Gml, Draw, Shape as Figure}
-use Rattle.compact_main.specs.declared.status.Why.TheVariants.{NotYet}
 use Rattle.compact_main.specs.declared.status.Status.{Status}
 use Rattle.compact_main.specs.declared.status.Status.TheVariants.{Done, Refused, BadWords}
 use Rattle.compact_main.specs.declared.status.Status.TheVariants.{ReadFault, WriteFault, NoMemory}
@@ -85,7 +84,6 @@ why_text limit TooLong = around (codes "more than ") limit (codes " bytes")
 why_text limit (Gml fault) = kind_text fault.kind ++ codes " at byte " ++ decimal fault.at
 why_text limit (Draw fault) = draw_text fault
 why_text limit (Figure fault) = shape_text fault
-why_text limit NotYet = codes "not built yet"
 
 -- the line without its line feed
 abbrev pub status_text : ℕ → Status → List ℕ

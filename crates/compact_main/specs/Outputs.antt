@@ -2,7 +2,6 @@
 use Rattle.std.specs.Prelude.{◌≡◌, ℕ, ◌<◌, ◌≤◌, List, ◌++◌, length, codes, decimal}
 use Rattle.compact_types.specs.declared.places.Places.{Places}
 use Rattle.compact_types.specs.declared.plan.Plan.{Plan}
-use Rattle.compact_types.specs.declared.plan.Shape.{Shape}
 use Rattle.compact_types.specs.Bests.{total_length, IsBest}
 use Rattle.gml_print.specs.Places.{placed}
 use Rattle.gml_print.specs.Printing.{printed}
@@ -12,7 +11,7 @@ use Rattle.compact_main.specs.declared.drawing.Drawing.{Drawing}
 use Rattle.compact_main.specs.declared.summary.Summary.{Summary}
 use Rattle.compact_main.specs.declared.status.Why.{Why}
 use Rattle.compact_main.specs.declared.status.Why.TheVariants as why
-use Rattle.compact_main.specs.Drawings.{HoldsDrawing, FirstTextFault, IsSettled, IsAny}
+use Rattle.compact_main.specs.Drawings.{HoldsDrawing, FirstTextFault}
 use Rattle.compact_main.specs.Intakes.{limit_of}
 use Rattle.compact_main.specs.Summaries.{IsSummary, summary_text}
 
@@ -21,28 +20,10 @@ pub record IsInput (limit : ℕ) (text : List ℕ) (drawing : Drawing) : Type 0 
   pub within : length text ≤ limit
   pub holds : HoldsDrawing text drawing
 
--- it holds a drawing whose shape is built
-abbrev pub HoldsBuilt : ℕ → (Shape → Type 0) → List ℕ → Type 0
-HoldsBuilt limit IsBuilt text =
-    (drawing : Drawing) × IsInput limit text drawing × IsBuilt drawing.shape
-
--- why it does not: the first reason that holds
-abbrev pub FirstReason : ℕ → (Shape → Type 0) → List ℕ → Why → Type 0
-FirstReason limit IsBuilt text why.TooLong = limit < length text
-FirstReason limit IsBuilt text (why.Gml fault) =
-    (length text ≤ limit) × FirstTextFault text (why.Gml fault)
-FirstReason limit IsBuilt text (why.Draw fault) =
-    (length text ≤ limit) × FirstTextFault text (why.Draw fault)
-FirstReason limit IsBuilt text (why.Shape fault) =
-    (length text ≤ limit) × FirstTextFault text (why.Shape fault)
-FirstReason limit IsBuilt text why.NotYet =
-    (drawing : Drawing) × IsInput limit text drawing × (IsBuilt drawing.shape → ⊥)
-
--- the shape is settled, and its tree is written with the best places and so many units between
+-- the drawing's tree is written with the best places of its shape and so many units between
 -- neighbouring lines of the grid; all else as it was read
 pub record DrawsBest (drawing : Drawing) (pitch : ℕ) (places : Places) (written : List ℕ) :
     Type 0 where
-  pub settled : IsSettled drawing.shape
   pub best : IsBest total_length drawing.shape places
   pub printed : written ≡ printed (placed drawing.tree drawing.reading.spots places pitch)
 
@@ -64,14 +45,16 @@ Output Measure text written =
     (drawing : Drawing) × IsInput (limit_of Measure) text drawing
     × (summary : Summary) × IsSummary drawing summary × (written ≡ summary_text summary)
 
--- the command accepts the text
+-- the command accepts the text: it has no more bytes than the command reads, and holds a drawing
 abbrev pub IsValid : Command → List ℕ → Type 0
-IsValid (Draw pitch) text = HoldsBuilt (limit_of (Draw pitch)) IsSettled text
-IsValid Check text = HoldsBuilt (limit_of Check) IsAny text
-IsValid Measure text = HoldsBuilt (limit_of Measure) IsAny text
+IsValid command text = (drawing : Drawing) × IsInput (limit_of command) text drawing
 
 -- the command refuses the text for this cause, the first that holds
 abbrev pub FirstFault : Command → List ℕ → Why → Type 0
-FirstFault (Draw pitch) text why = FirstReason (limit_of (Draw pitch)) IsSettled text why
-FirstFault Check text why = FirstReason (limit_of Check) IsAny text why
-FirstFault Measure text why = FirstReason (limit_of Measure) IsAny text why
+FirstFault command text why.TooLong = limit_of command < length text
+FirstFault command text (why.Gml fault) =
+    (length text ≤ limit_of command) × FirstTextFault text (why.Gml fault)
+FirstFault command text (why.Draw fault) =
+    (length text ≤ limit_of command) × FirstTextFault text (why.Draw fault)
+FirstFault command text (why.Shape fault) =
+    (length text ≤ limit_of command) × FirstTextFault text (why.Shape fault)

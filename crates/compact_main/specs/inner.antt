@@ -1,5 +1,4 @@
 pub mod Askings
-pub mod BestPlaces
 pub mod Rooms
 pub mod PairCounts
 pub mod Writes

@@ -4,6 +4,7 @@ ghost use Rattle.std.specs.Prelude.{◌≡◌, ◌↔◌, ℕ, ◌<◌, ◌≤�
 ghost use Rattle.std.specs.Prelude.{None, Some, IsTrue, IfSome, IfNone, MatchOption};
 ghost use Rattle.gml_print.specs.declared.limits.TheConstants.{MOST_PITCH};
 ghost use Rattle.compact_main.specs.declared.command.Command.{Command};
+ghost use Rattle.compact_main.specs.declared.command.TheConstants.{MOST_OPTION_WORDS};
 ghost use Rattle.compact_main.specs.Commands.{texts_of, IsPitch, AreOptions, Asks};
 ghost use Rattle.compact_main.specs.Intakes.{limit_of};
 ghost use Rattle.compact_main.specs.inner.Askings.{AreFound, IsAskedFor, IsCommand};
@@ -214,7 +215,7 @@ fn has_words(words: &[String]) -> bool
 
 /// Whether there are more words than options can be. Then none of them is looked at.
 fn has_too_many(words: &[String]) -> bool
-    ensures { IsTrue result ↔ (3 < length words.now) }
+    ensures { IsTrue result ↔ (MOST_OPTION_WORDS < length words.now) }
 {
     words.len() > MOST_OPTION_WORDS
 }

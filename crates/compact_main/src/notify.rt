@@ -64,7 +64,6 @@ fn push_why(note: &mut Note, limit: usize, why: Why)
         Why::Gml(fault) => push_at(note, kind_of(fault.kind), fault.at),
         Why::Draw(fault) => push_draw_fault(note, fault),
         Why::Shape(fault) => push_shape_fault(note, fault),
-        Why::NotYet => note.push(b"not built yet"),
     }
 }
 

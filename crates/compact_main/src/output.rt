@@ -1,14 +1,12 @@
 //! What a command writes for a text, or why it refuses it.
 
 ghost use Rattle.std.specs.Prelude.{◌≡◌, ◌≤◌, length, IfOk};
-ghost use Rattle.compact_types.specs.Magnitudes.{AreWithin};
 ghost use Rattle.compact_types.specs.Refusals.{IfFault};
 ghost use Rattle.compact_types.specs.Bests.{total_length, IsBest};
 ghost use Rattle.drawing_read.specs.Readings.{IsReading};
 ghost use Rattle.drawing_check.specs.Shapes.{IsShapeOf};
-ghost use Rattle.gml_print.specs.declared.limits.TheConstants.{GREATEST_PLACE, MOST_PITCH};
+ghost use Rattle.gml_print.specs.declared.limits.TheConstants.{MOST_PITCH};
 ghost use Rattle.compact_main.specs.Commands.{HasPitch};
-ghost use Rattle.compact_main.specs.Drawings.{IsSettled};
 ghost use Rattle.compact_main.specs.Intakes.{limit_of};
 ghost use Rattle.compact_main.specs.Outputs as outputs;
 ghost use Rattle.compact_main.specs.Outputs.{DrawsBest, Output, FirstFault};
@@ -41,8 +39,7 @@ pub(crate) fn answer(
     }
 }
 
-/// The text of the tree with the shortest places of its shape, where the shape alone keeps all its
-/// pairs of segments apart.
+/// The text of the tree with the best places of its shape.
 fn draw(alloc: Global, pitch: u32, bytes: &[u8]) -> Result<Items<u8>, Refusal<Why>>
     requires within { length bytes.now ≤ limit_of (Command.Draw pitch) }
     requires pitch { HasPitch (Command.Draw pitch) }
@@ -50,13 +47,12 @@ fn draw(alloc: Global, pitch: u32, bytes: &[u8]) -> Result<Items<u8>, Refusal<Wh
     ensures fault { IfFault result (FirstFault (Command.Draw pitch) bytes.now) }
 {
     let drawing = drawing_of(alloc, bytes)?;
-    match best_places(alloc, &drawing.shape)? {
-        Some(places) => Ok(drawn(alloc, drawing, &places, pitch)?),
-        None => Err(Refusal::Fault(Why::NotYet)),
-    }
+    let places = best_places(alloc, &drawing)?;
+    Ok(drawn(alloc, drawing, &places, pitch)?)
 }
 
-/// The tree of the drawing, printed with the best places of its shape.
+/// The tree of the drawing, printed with the best places of its shape and so many units between
+/// neighbouring lines of the grid.
 fn drawn(
     alloc: Global,
     drawing: Drawing,
@@ -65,9 +61,7 @@ fn drawn(
 ) -> Result<Items<u8>, NoMemory>
     requires read { IsReading drawing.tree drawing.reading }
     requires shape { IsShapeOf drawing.reading.plan drawing.reading.places drawing.shape }
-    requires settled { IsSettled drawing.shape }
     requires best { IsBest total_length drawing.shape places.now }
-    requires within { AreWithin GREATEST_PLACE places.now }
     requires some_pitch { 1 ≤ pitch }
     requires most_pitch { pitch ≤ MOST_PITCH }
     ensures { IfOk result (DrawsBest drawing pitch places.now) }

@@ -1,6 +1,10 @@
 //! The top call: what the words ask for, from reading the text to writing what it is answered.
 
+ghost use Rattle.std.specs.Prelude.{◌≤◌, length, IfOk, OnOk, IfErr};
+ghost use Rattle.std.specs.Io.KnownBytes.{Consumes, IsAtEnd};
+ghost use Rattle.io_ends.specs.Ends.{Gave, CountsRead};
 ghost use Rattle.compact_main.specs.Commands.{texts_of, Asks, HasPitch, IsThe};
+ghost use Rattle.compact_main.specs.Intakes.{limit_of};
 ghost use Rattle.compact_main.specs.Notes.{IsTold};
 ghost use Rattle.compact_main.specs.Runs.{IsRun};
 ghost use Rattle.compact_main.specs.inner.Writes.{IsWritten};
@@ -9,7 +13,7 @@ use crate::command::{Command, command_of};
 use crate::notify::notify;
 use crate::output::answer;
 use crate::status::{Status, Why};
-use compact_types::Refusal;
+use compact_types::{Items, Refusal};
 use io_ends::{ReadEnd, Sink, Source, read_all, write_all};
 use std::alloc::Global;
 
@@ -58,7 +62,7 @@ fn run_command<S: Source, K: Sink>(
         K.held K.faults out.old out.new
         result }
 {
-    let bytes = match read_all(alloc, source, command.limit()) {
+    let bytes = match read_input(alloc, command, source) {
         Ok(bytes) => bytes,
         Err(ReadEnd::ReadFault) => return Status::ReadFault,
         Err(ReadEnd::TooLong) => return Status::Refused(Why::TooLong),
@@ -69,6 +73,25 @@ fn run_command<S: Source, K: Sink>(
         Err(Refusal::Fault(why)) => Status::Refused(why),
         Err(Refusal::NoMemory) => Status::NoMemory,
     }
+}
+
+/// All the bytes that the source has left, if the command reads so many.
+fn read_input<S: Source>(
+    alloc: Global,
+    command: Command,
+    source: &mut S,
+) -> Result<Items<u8>, ReadEnd>
+    // All was read.
+    ensures within { IfOk result (λ bytes. length bytes ≤ limit_of command) }
+    ensures all { IfOk result (λ bytes. Consumes (S.left source.old) (S.left source.new) bytes) }
+    ensures end { OnOk result (IsAtEnd (S.left source.new)) }
+
+    // What was given before the refusal, and more than is read exactly where it is TooLong.
+    ensures given { IfErr result
+        (λ why. Gave why (limit_of command) (S.left source.old) (S.left source.new)) }
+    ensures counted { CountsRead result (S.faults source.old) (S.faults source.new) }
+{
+    read_all(alloc, source, command.limit())
 }
 
 /// Writes the output of a command, and answers how that ended.
@@ -84,7 +107,9 @@ fn write_output<K: Sink>(out: &mut K, written: &[u8]) -> Status
 }
 
 #[cfg(test)]
-mod settled;
+mod drawn;
+#[cfg(test)]
+mod figures;
 #[cfg(test)]
 mod tests;
 #[cfg(test)]

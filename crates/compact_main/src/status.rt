@@ -15,8 +15,6 @@ pub enum Why {
     Draw(DrawFault),
     /// The drawing is not straight, not connected, or has a crossing.
     Shape(ShapeFault),
-    /// What it asks for is not built yet.
-    NotYet,
 }
 
 /// How a run ended. Its number is what the program exits with.

@@ -2,6 +2,3 @@ use Rattle.compact_main.proofs.notify.push_why.Goals as goal
 
 pub returns-in-Gml : goal.returns-in-Gml
 returns-in-Gml c = rw (c.in-Gml.is, ← c.kind_of.ensures) c.push_at.ensures
-
-pub returns-in-NotYet : goal.returns-in-NotYet
-returns-in-NotYet c = rw c.in-NotYet.is c.push.ensures

@@ -3,7 +3,7 @@ use Rattle.compact_main.proofs.run.run_command.Goals as goal
 
 pub returns-in-Ok-answer : goal.returns-in-Ok-answer
 returns-in-Ok-answer g c =
-    written_run c.args.command g.S.Source.left g.S.Source.faults c.args.source.now c.read_all.new.source
+    written_run c.args.command g.S.Source.left g.S.Source.faults c.args.source.now c.read_input.new.source
     g.K.Sink.held g.K.Sink.faults c.args.out.now c.write_output.new.out
     c.as_slice.result.now c.as_slice-in-Ok-answer.result.now
     (rw c.as_slice.ensures c.in-Ok.ensures.all) c.in-Ok.ensures.end
@@ -12,14 +12,14 @@ returns-in-Ok-answer g c =
 
 pub returns-in-Err-Fault : goal.returns-in-Err-Fault
 returns-in-Err-Fault g c =
-    refused_run c.args.command g.S.Source.left g.S.Source.faults c.args.source.now c.read_all.new.source
+    refused_run c.args.command g.S.Source.left g.S.Source.faults c.args.source.now c.read_input.new.source
     g.K.Sink.held g.K.Sink.faults c.args.out.now c.in-Err-Fault.why c.as_slice.result.now
     (rw c.as_slice.ensures c.in-Ok.ensures.all) c.in-Ok.ensures.end
     (rw c.in-Err-Fault.field-0-is at c.in-Err-Fault.ensures.fault) c.in-Ok.ensures.counted
 
 pub returns-in-Err-TooLong : goal.returns-in-Err-TooLong
 returns-in-Err-TooLong g c =
-    let gave = rw (c.in-Err-TooLong.field-0-is, c.limit.ensures) at c.in-Err-TooLong.ensures.given in
-    long_run c.args.command g.S.Source.left g.S.Source.faults c.args.source.now c.read_all.new.source
+    let gave = rw c.in-Err-TooLong.field-0-is at c.in-Err-TooLong.ensures.given in
+    long_run c.args.command g.S.Source.left g.S.Source.faults c.args.source.now c.read_input.new.source
     g.K.Sink.held g.K.Sink.faults c.args.out.now gave.0 gave.1 gave.2
     (rw c.in-Err-TooLong.field-0-is at c.in-Err-TooLong.ensures.counted)

@@ -1,4 +1,4 @@
-//! Texts of drawings in which no side is left to choose, and what is written for them.
+//! Texts of drawings, and what is written for them.
 
 pub const FROM_EAST_TO_WEST_DRAWN: &[u8] = b"graph [
   node [
