@@ -8,7 +8,6 @@ use potentials::TotalLength;
 use std::alloc::Global;
 use std::test::Fail;
 
-mod board_table;
 mod examples;
 
 /// The entry of a claim by the only worker.
