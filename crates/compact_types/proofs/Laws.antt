@@ -16,3 +16,5 @@ pub use Rattle.compact_types.proofs.OneBest.{compare_numbers, one_best}
 pub use Rattle.compact_types.proofs.OrderLemmas.{list_not_before_itself, list_before_trans, not_before_itself, before_trans, same_key, before_or_equal}
 -- moves
 pub use Rattle.compact_types.proofs.MoveLemmas.{length-moved, place-moved, moved_back, moved_there, places_moved_back, places_moved_twice, begin-moved, end-moved, crossing_free-moved, drawing-moved, gap-moved, distance-moved, plain_length-moved, difference-moved, distance_places-moved, some_from_zero, one_shift, one_from_zero}
+-- places that are scaled down
+pub use Rattle.compact_types.proofs.ScalingLemmas.{coordinate-scaled, ways-scaled, ways_of_scaled, crossing_free-scaled, drawing-scaled, length-scaled, from_zero-scaled, from_zero_of_scaled, within-scaled, one_scaled, scaled_not_off, one_first_off}

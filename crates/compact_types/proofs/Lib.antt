@@ -10,4 +10,7 @@ pub mod MoveLemmas
 pub mod GroupLemmas
 pub mod AnswerLemmas
 pub mod CornerLemmas
+pub mod Multiples
+pub mod DivisionLemmas
+pub mod ScalingLemmas
 pub mod Laws

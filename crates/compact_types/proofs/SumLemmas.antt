@@ -34,7 +34,7 @@ times-add_pos (suc n) a b =
 times_negsuc : (n : ℕ) (a : ℤ) → negsuc n *ℤ a ≡ neg_ℤ (pos (suc n) *ℤ a)
 times_negsuc n a = *ℤ_comm (negsuc n) a ∙ *ℤ-negsuc a n ∙ ap neg_ℤ (*ℤ_comm a (pos (suc n)))
 
-times-add : (k a b : ℤ) → k *ℤ (a +ℤ b) ≡ k *ℤ a +ℤ k *ℤ b
+pub times-add : (k a b : ℤ) → k *ℤ (a +ℤ b) ≡ k *ℤ a +ℤ k *ℤ b
 times-add (pos n) a b = times-add_pos n a b
 times-add (negsuc n) a b =
     times_negsuc n (a +ℤ b) ∙ ap neg_ℤ (times-add_pos (suc n) a b)

@@ -15,6 +15,7 @@ pub mod Axes
 pub mod Orders
 pub mod Bests
 pub mod Moves
+pub mod Scalings
 pub mod Groups
 pub mod Rooms
 pub mod LendingRoom

@@ -8,6 +8,7 @@
 
 mod axes;
 mod bests;
+mod divisions;
 mod equalities;
 mod groups;
 mod items;
@@ -19,6 +20,7 @@ mod places;
 mod plan;
 mod refusal;
 mod reserved;
+mod scalings;
 mod search;
 mod segment;
 mod shifts;
@@ -28,6 +30,7 @@ mod tests;
 
 pub use axes::{length_by_axes, ways_by_axes};
 pub use bests::at_most_one_best;
+pub use divisions::scale_down;
 pub use equalities::equal_by_parts;
 pub use groups::{join_groups, single_groups};
 pub use items::Items;
@@ -41,6 +44,10 @@ pub use places::{Axis, Key, Places, Point};
 pub use plan::{Piece, Plan, Shape, Way};
 pub use refusal::{NoMemory, Refusal};
 pub use reserved::Reserved;
+pub use scalings::{
+    one_scaling, scaled_from_zero, scaled_lengths, scaled_magnitudes, scaled_or_off,
+    scaling_keeps_drawings, scaling_keeps_ways,
+};
 pub use search::{Branch, Choice, Extension, Flow, Flows};
 pub use segment::on_piece;
 pub use shifts::shift_to_zero;
