@@ -1,11 +1,11 @@
 //! One unit of a flow on another way: taken from an arc that is not tight, and sent along a tight
 //! way between the arc's ends.
 
-ghost use Rattle.std.specs.Prelude.{◌≡◌, ◌↔◌, ℕ, ◌+◌, ◌<◌, ◌≤◌, ◌^◌};
-ghost use Rattle.std.specs.Prelude.{length, slice_index, IfOk, IsTrue, List};
+ghost use Rattle.std.specs.Prelude.{◌≡◌, ℕ, ◌<◌, ◌≤◌, ◌^◌};
+ghost use Rattle.std.specs.Prelude.{length, IfOk, List};
 ghost use Rattle.shape_graphs.specs.Flows.{amount_at};
-ghost use Rattle.diff_flow.specs.inner.Steps.{AreMet, step_at};
-ghost use Rattle.diff_flow.specs.inner.Numbers.{height, NoneMeet};
+ghost use Rattle.diff_flow.specs.inner.Steps.{AreMet};
+ghost use Rattle.diff_flow.specs.inner.Numbers.{height};
 ghost use Rattle.diff_flow.specs.inner.Routing.{IsDetour, IsSlack, net_by};
 
 use crate::route::send;

@@ -5,7 +5,7 @@ ghost use Rattle.std.specs.Prelude.{length, IfOk, IsTrue, MatchResult};
 ghost use Rattle.shape_graphs.specs.Paths.{HasCycle};
 ghost use Rattle.shape_graphs.specs.Flows.{Balances, bound_of, IsBestFlow};
 ghost use Rattle.diff_flow.specs.Amounts.{IsFlowOn};
-ghost use Rattle.diff_flow.specs.Improving.{IsImproved, IsBestByNumbers, IsRaised};
+ghost use Rattle.diff_flow.specs.Improving.{IsImproved, IsRaised};
 ghost use Rattle.diff_flow.specs.inner.Steps.{AreStepsOf};
 ghost use Rattle.diff_flow.specs.inner.Routing.{IsNear};
 ghost use Rattle.diff_flow.specs.inner.Bettering.{IsBetter};

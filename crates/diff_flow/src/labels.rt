@@ -4,7 +4,7 @@
 //! are then raised from a queue of the nodes whose steps may fail. A number above the limit shows
 //! that no numbers meet the steps.
 
-ghost use Rattle.std.specs.Prelude.{◌≡◌, ◌≤◌, ◌<◌, ◌+◌, ◌-◌, ◌*◌, ◌^◌, ℕ};
+ghost use Rattle.std.specs.Prelude.{◌≡◌, ◌≤◌, ◌<◌, ◌+◌, ◌-◌, ◌*◌, ◌^◌};
 ghost use Rattle.std.specs.Prelude.{[], length, replicate, slice_index, IfOk};
 ghost use Rattle.std.specs.Prelude.{sum, MatchBool, MatchOption};
 ghost use Rattle.diff_flow.specs.inner.Steps.{step_at};

@@ -1,7 +1,7 @@
 //! The longest walks of a graph without a cycle: for each node the length of a longest walk to it.
 
-ghost use Rattle.std.specs.Prelude.{◌≡◌, ◌≤◌, ◌<◌, ◌+◌, ◌-◌, ◌*◌, ◌^◌, ℕ};
-ghost use Rattle.std.specs.Prelude.{[], length, IfOk, MatchBool};
+ghost use Rattle.std.specs.Prelude.{◌≡◌, ◌≤◌, ◌<◌, ◌+◌, ◌-◌, ◌*◌, ◌^◌};
+ghost use Rattle.std.specs.Prelude.{[], length, IfOk};
 ghost use Rattle.diff_flow.specs.inner.Numbers.{AreLeastMet, AreWalked, NoneMeet};
 ghost use Rattle.diff_flow.specs.inner.Steps.{AreInOrder};
 
