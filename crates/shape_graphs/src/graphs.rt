@@ -8,7 +8,7 @@ ghost use Rattle.compact_types.specs.Lookups.{axis_of};
 ghost use Rattle.bars.specs.Lines as lines;
 ghost use Rattle.bars.specs.Segments as nodes;
 ghost use Rattle.bars.specs.Sides.{side_axis};
-ghost use Rattle.bars.specs.Solutions.{Fit, IsChoice};
+ghost use Rattle.bars.specs.Solutions.{Fit, IsChoice, IsSound};
 ghost use Rattle.shape_graphs.specs.Graphs as graphs;
 ghost use Rattle.shape_graphs.specs.Graphs.{IsGraphOf, arcs_of, piece_arcs};
 ghost use Rattle.shape_graphs.specs.Graphs.{piece_arc_along, choice_arc_along};
@@ -31,69 +31,61 @@ pub fn graphs_of(
     ensures rows { IfOk result (λ graphs.
         IsGraphOf axis.Y bars.now extension.now.choices graphs.1) }
 {
-    let columns = graph_along(alloc, bars, extension, Axis::X)?;
-    let rows = graph_along(alloc, bars, extension, Axis::Y)?;
+    let pieces = bars.shape().plan.pieces.len();
+    let choices = extension.choices.as_slice();
+    let room = pieces.saturating_add(choices.len());
+    let mut columns = Items::from_vec(Vec::with_capacity(alloc, room)?);
+    let mut rows = Items::from_vec(Vec::with_capacity(alloc, room)?);
+    push_pieces(&mut columns, &mut rows, bars)?;
+    push_choices(&mut columns, &mut rows, bars, choices)?;
+    let columns = graph_along(bars, choices, Axis::X, columns);
+    let rows = graph_along(bars, choices, Axis::Y, rows);
     Ok((columns, rows))
 }
 
-/// The graph of an axis.
-fn graph_along(
-    alloc: Global,
-    bars: &Bars,
-    extension: &Extension,
-    axis: Axis,
-) -> Result<DiffGraph, NoMemory>
-    requires { Fit bars.now extension.now.choices }
-    ensures { IfOk result (IsGraphOf axis bars.now extension.now.choices) }
-{
-    let pieces = bars.shape().plan.pieces.len();
-    let room = pieces.saturating_add(extension.choices.len());
-    let mut arcs = Items::from_vec(Vec::with_capacity(alloc, room)?);
-    push_arcs(&mut arcs, bars, extension.choices.as_slice(), axis)?;
-    let nodes = node_count(bars, axis);
-    Ok(DiffGraph { nodes, arcs })
-}
-
-/// Adds the arcs of the pieces along the axis, and then those of the choices.
-fn push_arcs(
-    arcs: &mut Items<Arc>,
-    bars: &Bars,
-    choices: &[Choice],
-    axis: Axis,
-) -> Result<(), NoMemory>
-    requires none { arcs.old ≡ [] }
+/// The graph of an axis, with these arcs.
+fn graph_along(bars: &Bars, choices: &[Choice], axis: Axis, arcs: Items<Arc>) -> DiffGraph
     requires fit { Fit bars.now choices.now }
-    ensures { OnOk result (arcs.new ≡ arcs_of axis bars.now choices.now) }
+    requires sound { IsSound bars.now }
+    requires arcs { arcs ≡ arcs_of axis bars.now choices.now }
+    ensures { IsGraphOf axis bars.now choices.now result }
 {
-    push_pieces(arcs, bars, axis)?;
-    push_choices(arcs, bars, choices, axis)?;
-    Ok(())
+    let _choices = choices;
+    let nodes = node_count(bars, axis);
+    DiffGraph { nodes, arcs }
 }
 
-/// Adds the arcs of the pieces along the axis.
-fn push_pieces(arcs: &mut Items<Arc>, bars: &Bars, axis: Axis) -> Result<(), NoMemory>
-    requires { arcs.old ≡ [] }
-    ensures { OnOk result (arcs.new ≡ piece_arcs axis bars.now) }
+/// Adds the arcs of the pieces, each to those of the axis along which it goes.
+fn push_pieces(columns: &mut Items<Arc>, rows: &mut Items<Arc>, bars: &Bars) -> Result<(), NoMemory>
+    requires no_columns { columns.old ≡ [] }
+    requires no_rows { rows.old ≡ [] }
+    ensures columns { OnOk result (columns.new ≡ piece_arcs axis.X bars.now) }
+    ensures rows { OnOk result (rows.new ≡ piece_arcs axis.Y bars.now) }
 {
     let count = bars.shape().plan.pieces.len();
     for i in 0..count {
-        push_some(arcs, piece_arc(bars, axis, i))?;
+        push_some(columns, piece_arc(bars, Axis::X, i))?;
+        push_some(rows, piece_arc(bars, Axis::Y, i))?;
     }
     Ok(())
 }
 
-/// Adds the arcs of the choices whose sides keep apart along the axis.
+/// Adds the arcs of the choices, each to those of the axis along which its side keeps apart.
 fn push_choices(
-    arcs: &mut Items<Arc>,
+    columns: &mut Items<Arc>,
+    rows: &mut Items<Arc>,
     bars: &Bars,
     choices: &[Choice],
-    axis: Axis,
 ) -> Result<(), NoMemory>
     requires { Fit bars.now choices.now }
-    ensures { OnOk result (arcs.new ≡ arcs.old ++ graphs.choice_arcs axis bars.now choices.now) }
+    ensures columns { OnOk result
+        (columns.new ≡ columns.old ++ graphs.choice_arcs axis.X bars.now choices.now) }
+    ensures rows { OnOk result
+        (rows.new ≡ rows.old ++ graphs.choice_arcs axis.Y bars.now choices.now) }
 {
     for i in 0..choices.len() {
-        push_some(arcs, choice_arc(bars, axis, choices[i]))?;
+        push_some(columns, choice_arc(bars, Axis::X, choices[i]))?;
+        push_some(rows, choice_arc(bars, Axis::Y, choices[i]))?;
     }
     Ok(())
 }

@@ -1,8 +1,12 @@
+use Rattle.compact_types.specs.declared.places.Axis.TheVariants.{X, Y}
 use Rattle.shape_graphs.specs.Graphs.{choice_arc_along}
 use Rattle.shape_graphs.proofs.Pushing.{pushed_list}
 use Rattle.shape_graphs.proofs.graphs.push_choices.Goals as goal
 
 pub loop-i-preserved : goal.loop-i-preserved
-loop-i-preserved c =
-    pushed_list (choice_arc_along c.args.axis c.args.bars.now) c.args.choices.now _ c.loop-i.i c.args.arcs.now c.loop-i.arcs c.push_some.new.arcs
-    c.choice_arc.result c.loop-i-test.true c.loop-i.invariant c.choice_arc.ensures c.in_ok-push_some.ensures
+loop-i-preserved c = (
+  pushed_list (choice_arc_along X c.args.bars.now) c.args.choices.now _ c.loop-i.i c.args.columns.now c.loop-i.columns c.push_some.new.arcs
+      c.choice_arc.result c.loop-i-test.true c.loop-i.invariant.0 c.choice_arc.ensures c.in_ok-push_some.ensures,
+  pushed_list (choice_arc_along Y c.args.bars.now) c.args.choices.now _ c.loop-i.i c.args.rows.now c.loop-i.rows c.push_some-in-loop-i.new.arcs
+      c.choice_arc-in-loop-i.result c.loop-i-test.true c.loop-i.invariant.1 c.choice_arc-in-loop-i.ensures c.in_ok-push_some-2.ensures,
+)
