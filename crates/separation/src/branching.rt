@@ -33,6 +33,12 @@ pub fn branch_pair(bars: &Bars, reach: &Reach, places: &Places) -> Option<(u32, 
     if has_room(bars, 64) {
         return pair_in::<64>(bars, reach, places);
     }
+    if has_room(bars, 128) {
+        return pair_in::<128>(bars, reach, places);
+    }
+    if has_room(bars, 192) {
+        return pair_in::<192>(bars, reach, places);
+    }
     if has_room(bars, 320) {
         return pair_in::<320>(bars, reach, places);
     }

@@ -1,6 +1,6 @@
 //! The pair with the fewest open sides among those that share a point.
 
-ghost use Rattle.std.specs.Prelude.{◌≡◌, ◌<◌, ◌↔◌, Bool, IsTrue, length, List, None};
+ghost use Rattle.std.specs.Prelude.{◌≡◌, ◌<◌, Bool, length, List, None};
 ghost use Rattle.std.specs.List.{count_by};
 ghost use Rattle.compact_types.specs.declared.places.Axis.{Axis};
 ghost use Rattle.compact_types.specs.declared.places.Places.{Places};

@@ -13,6 +13,7 @@ mod extents;
 mod law;
 mod sharing;
 mod sides;
+mod splitting;
 #[cfg(test)]
 mod tests;
 
@@ -22,3 +23,4 @@ pub use extension::extension_of;
 pub use law::{complete_solutions_are_drawings, drawings_are_apart, drawings_take_a_side};
 pub use sharing::sharing_pair;
 pub use sides::{Reach, Sides, is_separated, open_sides, reach_of};
+pub use splitting::splitting_pair;

@@ -39,6 +39,12 @@ pub fn sharing_pair(bars: &Bars, places: &Places) -> Option<(u32, u32)>
     if has_room(bars, 64) {
         return sharing_in::<64>(bars, places);
     }
+    if has_room(bars, 128) {
+        return sharing_in::<128>(bars, places);
+    }
+    if has_room(bars, 192) {
+        return sharing_in::<192>(bars, places);
+    }
     if has_room(bars, 320) {
         return sharing_in::<320>(bars, places);
     }
@@ -93,7 +99,7 @@ fn numbers_of(found: Option<Meeting>) -> Option<(u32, u32)>
 
 /// The first pair that shares a point. It goes along the axis of the extents, and compares each
 /// with those that begin before it ends.
-fn first_sharing(bars: &Bars, extents: &[Extent]) -> Option<Meeting>
+pub(crate) fn first_sharing(bars: &Bars, extents: &[Extent]) -> Option<Meeting>
     requires in_shape { AreInShape bars.now extents.now }
     ensures { (axis : Axis) (places : Places) → HasDrawing bars.now → HasWays bars.now places →
         AreExtentsAlong axis bars.now places extents.now → BeginInOrder extents.now →
