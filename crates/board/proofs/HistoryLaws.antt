@@ -44,7 +44,7 @@ opened_same parent (settled.Split first s t) = refl
 opened_same parent settled.Closed = refl
 opened_same parent settled.Improved = refl
 
-after_same : (state : State) (entry : Entry) → length state.choices ≡ branch_count state → length (after state entry).choices ≡ branch_count (after state entry)
+pub after_same : (state : State) (entry : Entry) → length state.choices ≡ branch_count state → length (after state entry).choices ≡ branch_count (after state entry)
 after_same state (entries.Claimed who id) same = same ∙ sym (length-set state.standings id (Held who))
 after_same state (entries.Settled who id what) same =
     let choices = length-append state.choices (choices_opened (choices_of state id) what) in

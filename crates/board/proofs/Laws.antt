@@ -3,9 +3,11 @@
 -- what stands after longer histories
 pub use Rattle.board.proofs.HistoryLaws.{replayed-append, all_fit-append, state_with, legal_with, same_count, known_stays, some_branch, choices_stay, settled_stays, first_choices}
 -- open branches
-pub use Rattle.board.proofs.OpenLaws.{open_inside, waiting_open, held_open, some_open, none_open, open_claimed, open_settled, nothing_opens_again}
+pub use Rattle.board.proofs.OpenLaws.{open_inside, waiting_open, held_open, some_open, none_open, all_settled, open_claimed, open_settled, nothing_opens_again}
 -- what a history tells of a branch
 pub use Rattle.board.proofs.TellingLaws.{told, holder_holds, held_claimed, held_not_settled}
+-- branches that were split
+pub use Rattle.board.proofs.SplitLaws.{splits_have_children, splits_name_a_pair}
 -- how much is left to do
 pub use Rattle.board.proofs.WorkLaws.{work_stays, work_falls}
 -- the facts of a board

@@ -5,6 +5,7 @@ pub mod OpenLaws
 pub mod TellingLaws
 pub mod WorkLaws
 pub mod AfterLemmas
+pub mod SplitLaws
 pub mod FewChoices
 pub mod Covering
 pub mod Children

@@ -9,8 +9,8 @@ use Rattle.board.specs.declared.entries.Entry.TheVariants as entries
 use Rattle.board.specs.declared.entries.Settled.{Settled}
 use Rattle.board.specs.declared.entries.Settled.TheVariants as settled
 use Rattle.board.specs.declared.standings.Standing.{Standing}
-use Rattle.board.specs.declared.standings.Standing.TheVariants.{Held, Done}
-use Rattle.board.specs.Histories.{State, branch_count, standing_of, is_open, IsOpen, IsWaiting, IsHeldBy, open_count_of, standings_opened, Fits, after, state_of, IsLegal}
+use Rattle.board.specs.declared.standings.Standing.TheVariants.{Waiting, Held, Done}
+use Rattle.board.specs.Histories.{State, branch_count, standing_of, is_open, IsOpen, IsWaiting, IsHeldBy, IsSettled, open_count_of, standings_opened, Fits, after, state_of, IsLegal}
 use Rattle.board.proofs.HistoryLaws.{all_fit-append}
 
 -- what a standing counts for
@@ -49,6 +49,15 @@ some_open state id is =
 
 pub none_open : (state : State) → open_count_of state ≡ 0 → (id : ℕ) → IsOpen state id → ⊥
 none_open state none id is = let some = some_open state id is in omega (arith, none, some)
+
+-- so without an open branch every branch is settled
+pub all_settled : (state : State) → open_count_of state ≡ 0 → (id : ℕ) → id < branch_count state → IsSettled state id
+all_settled state none id below = by_standing (standing_of state id) refl
+  where
+    by_standing : (standing : Standing) → standing_of state id ≡ standing → IsSettled state id
+    by_standing Waiting is = absurd (none_open state none id (waiting_open state id is))
+    by_standing (Held who) is = absurd (none_open state none id (held_open state id who is))
+    by_standing (Done what) is = record { what = what; outcome = record { below = below; done = is } }
 
 pub open_claimed : (state : State) (who id : ℕ) → Fits state (entries.Claimed who id) → open_count_of (after state (entries.Claimed who id)) ≡ open_count_of state
 open_claimed state who id fits =

@@ -151,17 +151,17 @@ verdict_settled {P = P} objective Backs board id found kept inside is = by_stand
     by_standing : (standing : Standing) → standing_of (board_state board) id ≡ standing →
         IsKeptAt objective Backs board id standing → IsSome found ↔ IsSettled (board_state board) id
     by_standing Waiting stands none =
-        (λ some. absurd (none_some (sym is ∙ none) some), λ settled. absurd (let done = settled.done in cc))
+        (λ some. absurd (none_some (sym is ∙ none) some), λ settled. absurd (let done = settled.outcome.done in cc))
       where
         none_some : {found : Option (Verdict P)} → found ≡ None → IsSome found → ⊥
         none_some e some = let h : false ≡ true = rw e at some in cc
     by_standing (Held who) stands none =
-        (λ some. absurd (none_some (sym is ∙ none) some), λ settled. absurd (let done = settled.done in cc))
+        (λ some. absurd (none_some (sym is ∙ none) some), λ settled. absurd (let done = settled.outcome.done in cc))
       where
         none_some : {found : Option (Verdict P)} → found ≡ None → IsSome found → ⊥
         none_some e some = let h : false ≡ true = rw e at some in cc
     by_standing (Done what) stands settled =
-        (λ some. record { below = below; what = what; done = stands }, λ done. rw (sym is ∙ settled.kept) refl)
+        (λ some. record { what = what; outcome = record { below = below; done = stands } }, λ done. rw (sym is ∙ settled.kept) refl)
 
 -- boards with the same parts
 abbrev pub same_boards : {P : Type 0} → Shape → ℕ → List Entry → List Entry → Key → Key →

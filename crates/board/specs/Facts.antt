@@ -58,7 +58,8 @@ abbrev pub IsCovered : Objective → Shape → State → Key → Type 0
 IsCovered objective shape state incumbent =
     (places : Places) → IsDrawing shape places → IsFromZero places →
     IsBefore (key_of objective shape places) incumbent →
-    IsNotUndercut objective shape (worth_of objective shape places) → AreInOpenBranch shape state places
+    IsNotUndercut objective shape (worth_of objective shape places) →
+    AreInOpenBranch shape state places
 
 -- the outcome is a split
 abbrev pub IsSplit : Settled → Type 0

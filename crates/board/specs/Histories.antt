@@ -1,5 +1,5 @@
 -- What has been done with the branches of a search, entry by entry.
-use Rattle.std.specs.Prelude.{◌≡◌, ℕ, ◌<◌, Bool, true, false, IsTrue, List, [], ◌∷◌, ◌++◌, length, slice_index_or, slice_set, count_by}
+use Rattle.std.specs.Prelude.{◌≡◌, ℕ, ◌+◌, ◌<◌, ◌≤◌, Bool, true, false, IsTrue, List, [], ◌∷◌, ◌++◌, length, slice_index_or, slice_set, count_by}
 use Rattle.compact_types.specs.declared.search.Branch.{Branch}
 use Rattle.compact_types.specs.declared.search.Choice.{Choice}
 use Rattle.bars.specs.Solutions.{with_choice}
@@ -39,11 +39,15 @@ IsWaiting state id = standing_of state id ≡ Waiting
 abbrev pub IsHeldBy : State → ℕ → ℕ → Type 0
 IsHeldBy state id who = standing_of state id ≡ Held who
 
+-- there is a branch of this number, and it is settled with this outcome
+pub record IsOutcomeOf (state : State) (id : ℕ) (what : Settled) : Type 0 where
+  pub below : id < branch_count state
+  pub done : standing_of state id ≡ Done what
+
 -- there is a branch of this number, and it is settled
 pub record IsSettled (state : State) (id : ℕ) : Type 0 where
-  pub below : id < branch_count state
   pub what : Settled
-  pub done : standing_of state id ≡ Done what
+  pub outcome : IsOutcomeOf state id what
 
 -- whether a branch that stands so is open: it waits or is held
 abbrev pub is_open : Standing → Bool
@@ -69,6 +73,20 @@ abbrev pub children_of : List Choice → ℕ → ℕ → List (List Choice)
 children_of parent s t =
     with_choice parent s t 0 ∷ with_choice parent s t 1 ∷ with_choice parent s t 2
     ∷ with_choice parent s t 3 ∷ []
+
+-- a branch that was split at a pair has its children: four branches from the number `first` on, which
+-- is above its own, and each of them has its choices with one side of the pair added
+pub record HasChildren (state : State) (id first s t : ℕ) : Type 0 where
+  pub behind : id < first
+  pub within : first + 4 ≤ branch_count state
+  pub choices : (side : ℕ) → side < 4 →
+      choices_of state (first + side) ≡ with_choice (choices_of state id) s t side
+
+-- the second branch was opened from the first, which stands before it: it has one choice more
+pub record IsOpenedFrom (state : State) (parent id : ℕ) : Type 0 where
+  pub before : parent < id
+  pub choice : Choice
+  pub choices : choices_of state id ≡ choices_of state parent ++ choice ∷ []
 
 -- four branches that wait
 abbrev pub four_waiting : List Standing

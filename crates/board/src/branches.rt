@@ -1,14 +1,16 @@
 //! The branches of a search: their choices, how they stand, and which of them wait.
 
-ghost use Rattle.std.specs.Prelude.{◌≡◌, ◌↔◌, ◌+◌, ◌<◌, ◌≤◌, [], ◌∷◌, ◌++◌, length};
-ghost use Rattle.std.specs.Prelude.{IfOk, IsTrue, MatchOption, OnErr, OnOk, vec_len, vec_capacity, ◌^◌};
+ghost use Rattle.std.specs.Prelude.{◌≡◌, ◌↔◌, ◌+◌, ◌<◌, ◌≤◌, [], ◌∷◌, ◌++◌};
+ghost use Rattle.std.specs.Prelude.{IfOk, IsTrue, MatchOption, OnErr, OnOk};
+ghost use Rattle.std.specs.Prelude.{vec_len, vec_capacity, ◌^◌};
 ghost use Rattle.board.specs.declared.entries.Entry.TheVariants as entries;
 ghost use Rattle.board.specs.declared.entries.Settled.TheVariants as outcomes;
 ghost use Rattle.board.specs.declared.standings.Standing.TheVariants as stand;
 ghost use Rattle.board.specs.Boards.{IsLatestWaiting, NoneWaits};
 ghost use Rattle.board.specs.Histories as histories;
-ghost use Rattle.board.specs.Histories.{IsHeldBy, IsKnown, IsWaiting, after, branch_count};
-ghost use Rattle.board.specs.Histories.{four_waiting, open_count_of, opened};
+ghost use Rattle.board.specs.Histories.{IsHeldBy, IsKnown, IsOpenedFrom, IsOutcomeOf, IsSettled};
+ghost use Rattle.board.specs.Histories.{IsWaiting};
+ghost use Rattle.board.specs.Histories.{after, branch_count, four_waiting, open_count_of, opened};
 ghost use Rattle.board.specs.inner.Stacks.{HoldWaiting, IsStack};
 ghost use Rattle.board.specs.inner.Tables.{IsLeaf};
 
@@ -90,6 +92,32 @@ impl Branches {
         }
     }
 
+    /// How the branch was settled; `None` exactly where no branch of this number is settled.
+    pub(crate) fn outcome(&self, id: u64) -> Option<Settled>
+        ensures { MatchOption result (IsSettled self.now id → ⊥) (IsOutcomeOf self.now id) }
+    {
+        if id >= self.count() {
+            return None;
+        }
+        match self.standing_of(id) {
+            Standing::Done { what } => Some(what),
+            Standing::Waiting | Standing::Held { .. } => None,
+        }
+    }
+
+    /// The branch from which this one was opened; `None` where there is none.
+    pub(crate) fn parent(&self, id: u64) -> Option<u64>
+        ensures { MatchOption result (Unit {0}) (λ parent. IsOpenedFrom self.now parent id) }
+    {
+        if id >= self.count() {
+            return None;
+        }
+        match self.chains.step_up(id) {
+            None => None,
+            Some(step) => Some(step.parent),
+        }
+    }
+
     /// Whether there is such a branch, with these choices.
     pub(crate) fn keeps(&self, branch: &Branch) -> bool
         ensures { IsTrue result ↔ IsKnown self.now branch.now }
@@ -126,8 +154,8 @@ impl Branches {
         keep_waiting(&mut self.waiting, &self.standings);
     }
 
-    /// The branch, which the caller holds, is settled with an outcome that opens no branch. It takes
-    /// no memory.
+    /// The branch, which the caller holds, is settled with an outcome that opens no branch. It
+    /// takes no memory.
     pub(crate) fn finish(&mut self, who: u32, id: u64, what: Settled)
         requires held { IsHeldBy self.old id who }
         requires leaf { IsLeaf what }

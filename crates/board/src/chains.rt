@@ -102,7 +102,7 @@ impl Chains {
     }
 
     /// One step up from a branch to its parent; `None` for branch 0, which has no choices.
-    fn step_up(&self, id: u64) -> Option<Step>
+    pub(crate) fn step_up(&self, id: u64) -> Option<Step>
         requires { id < length self.now }
         ensures { MatchOption result (chain_at self.now id ≡ []) (IsStep self.now id) }
     {

@@ -109,11 +109,8 @@ fn is_shared_by_two_callers(rt: HostRuntime) -> Result<(), Fail> {
     let alloc = rt.alloc();
     let mut board = board(alloc)?;
     both(&board);
-    let other = Some(Choice {
-        s: 0,
-        t: 1,
-        side: 0,
-    });
+    let (s, t) = (0, 1);
+    let other = Some(Choice { s, t, side: 0 });
     assert_eq!(rt;
         claim(alloc, &mut board, 2, 7, None).ok(),
         Some(Claim::Stranger)
@@ -133,15 +130,16 @@ fn is_shared_by_two_callers(rt: HostRuntime) -> Result<(), Fail> {
     assert_eq!(rt; settle(alloc, &mut board, 2), Err(SettleFault::NotYours));
     assert_eq!(rt; board.open_count(), 1);
     assert!(rt; board.verdict(0).is_none());
-    assert_eq!(rt; settle(alloc, &mut board, 1), Ok(Settled::Closed));
+    assert_eq!(rt; board.outcome(0), None);
+    let what = Settled::Closed;
+    assert_eq!(rt; settle(alloc, &mut board, 1), Ok(what));
     assert_eq!(rt; board.open_count(), 0);
     assert!(rt; board.verdict(0).is_some());
+    assert_eq!(rt; board.outcome(0), Some(what));
+    assert_eq!(rt; board.outcome(1), None);
     assert_eq!(rt; board.best().worth, 0);
-    let settled = Entry::Settled {
-        who: 1,
-        id: 0,
-        what: Settled::Closed,
-    };
+    let (who, id) = (1, 0);
+    let settled = Entry::Settled { who, id, what };
     assert_eq!(rt;
         board.entries(),
         [Entry::Claimed { who: 1, id: 0 }, settled].as_slice()

@@ -16,7 +16,8 @@ fork_at forks k = slice_index_or forks k (record { parent = 0; s = 0; t = 0 })
 -- the choices of all branches, when each fork in turn has opened the children of its parent
 abbrev pub grown : List (List Choice) → List Fork → List (List Choice)
 grown lists [] = lists
-grown lists (fork ∷ forks) = grown (lists ++ children_of (chain_at lists fork.parent) fork.s fork.t) forks
+grown lists (fork ∷ forks) =
+    grown (lists ++ children_of (chain_at lists fork.parent) fork.s fork.t) forks
 
 -- the choices of all branches, from branch 0 on, which has none
 abbrev pub lists_of : List Fork → List (List Choice)

@@ -10,7 +10,8 @@ standing_at standings id = slice_index_or standings id (Done Closed)
 
 -- the numbers rise, and are below the bound
 pub record AreRising (numbers : List ℕ) (bound : ℕ) : Type 0 where
-  pub in_order : (i j : ℕ) → i < j → j < length numbers → slice_index numbers i < slice_index numbers j
+  pub in_order : (i j : ℕ) → i < j → j < length numbers →
+      slice_index numbers i < slice_index numbers j
   pub below : (i : ℕ) → i < length numbers → slice_index numbers i < bound
 
 -- the numbers of branches rise, and each waiting branch is among them

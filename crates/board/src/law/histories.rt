@@ -1,9 +1,11 @@
 //! Laws of histories: what stays when they grow, and what they tell of each branch.
 
-ghost use Rattle.std.specs.Prelude.{◌≡◌, ◌↔◌, ◌<◌, ◌≤◌, ◌+◌, ℕ, List, [], ◌∷◌, ◌++◌, length, Contains};
+ghost use Rattle.std.specs.Prelude.{◌≡◌, ◌↔◌, ◌<◌, ◌≤◌, ◌+◌, ℕ, List, [], ◌++◌};
+ghost use Rattle.std.specs.Prelude.{length, Contains};
 ghost use Rattle.board.specs.declared.entries.Entry.{Entry};
 ghost use Rattle.board.specs.declared.entries.Entry.TheVariants as entries;
 ghost use Rattle.board.specs.declared.entries.Settled.{Settled};
+ghost use Rattle.board.specs.declared.entries.Settled.TheVariants.{Split};
 ghost use Rattle.board.specs.declared.standings.Standing.TheVariants.{Done};
 ghost use Rattle.board.specs.Facts.{AreByCallers};
 ghost use Rattle.board.specs.Histories.{
@@ -12,9 +14,11 @@ ghost use Rattle.board.specs.Histories.{
   branch_count,
   choices_of,
   Fits,
+  HasChildren,
   IsHeldBy,
   IsLegal,
   IsOpen,
+  IsSettled,
   open_count_of,
   replayed,
   standing_of,
@@ -67,6 +71,21 @@ pub fn nothing_opens_again()
     ensures some_open { (state : State) (id : ℕ) → IsOpen state id → 0 < open_count_of state }
 {}
 
+/// Without an open branch every branch is settled.
+pub fn all_settled()
+    ensures { (state : State) → open_count_of state ≡ 0 → (id : ℕ) → id < branch_count state →
+        IsSettled state id }
+{}
+
+/// A branch that was split has four children, which come after it and have its choices with one
+/// side of the pair added.
+pub fn splits_have_children()
+    ensures { (history : List Entry) (id first s t : ℕ) → IsLegal history →
+        id < branch_count (state_of history) →
+        standing_of (state_of history) id ≡ Done (Split first s t) →
+        HasChildren (state_of history) id first s t }
+{}
+
 /// Without an open branch the history tells of each branch that it was claimed once and then
 /// settled once, by the same caller.
 pub fn branches_are_told()
@@ -89,8 +108,8 @@ pub fn holders_hold()
         Contains history (entries.Settled who id what) → ⊥ }
 {}
 
-/// A claim leaves as much work as before and as many open branches; a settle leaves less work, where
-/// no branch gets more than `most` choices.
+/// A claim leaves as much work as before and as many open branches; a settle leaves less work,
+/// where no branch gets more than `most` choices.
 pub fn work_falls()
     ensures claimed { (most : ℕ) (history : List Entry) (who id : ℕ) →
         Fits (state_of history) (entries.Claimed who id) →
@@ -98,7 +117,8 @@ pub fn work_falls()
         ≡ work_left most (state_of history) }
     ensures settled { (most : ℕ) (history : List Entry) (who id : ℕ) (what : Settled) →
         Fits (state_of history) (entries.Settled who id what) →
-        ((child : ℕ) → child < branch_count (after (state_of history) (entries.Settled who id what)) →
+        ((child : ℕ) →
+        child < branch_count (after (state_of history) (entries.Settled who id what)) →
         length (choices_of (after (state_of history) (entries.Settled who id what)) child) ≤ most) →
         work_left most (after (state_of history) (entries.Settled who id what))
         < work_left most (state_of history) }
