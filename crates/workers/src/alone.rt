@@ -23,9 +23,9 @@ pub struct Best<P: Backing> {
     pub board: Board<P>,
 }
 
-/// The best key of the shape in the measure, by a branch-and-bound search over the sides of pairs of
-/// segments (Klau and Mutzel): it begins with the key of the extension that the drawing gives, and
-/// settles the waiting branch with the greatest number for as long as one waits. Without memory
+/// The best key of the shape in the measure, by a branch-and-bound search over the sides of pairs
+/// of segments (Klau and Mutzel): it begins with the key of the extension that the drawing gives,
+/// and settles the waiting branch with the greatest number for as long as one waits. Without memory
 /// there is no answer.
 #[tactic(auto, using(crate::proofs::TurnLemmas::at_first))]
 pub fn search_alone<M: Measure>(

@@ -1,17 +1,15 @@
 //! The pair of segments that goes with a verdict.
 
-ghost use Rattle.std.specs.Prelude.{◌≡◌, ◌↔◌, IsTrue, IfOk, MatchOption, length};
-ghost use Rattle.compact_types.specs.Drawings.{IsDrawing};
+ghost use Rattle.std.specs.Prelude.{◌≡◌, ◌↔◌, IsTrue, IfOk, length};
 ghost use Rattle.compact_types.specs.Orders.{IsBefore};
 ghost use Rattle.bars.specs.Solutions.{Fit, Solves};
 ghost use Rattle.shape_graphs.specs.Measures.{IsRight};
-ghost use Rattle.separation.specs.Branching.{IsBranchPair};
 ghost use Rattle.board.specs.Verdicts.{IsPairAt, IsPairFor};
 ghost use Rattle.workers.specs.inner.Pairs.{IsBranchPairAt};
 
 use bars::Bars;
 use compact_types::{Extension, Key, NoMemory, Places, compare};
-use separation::{branch_pair, reach_of, sharing_pair};
+use separation::{sharing_pair, splitting_pair};
 use shape_graphs::{Backing, Verdict};
 use std::alloc::Global;
 use std::cmp::Ordering;
@@ -54,13 +52,10 @@ fn pair_at(
     ensures fewest { IsBefore key.now incumbent.now → IfOk result
         (IsBranchPairAt bars.now extension.now.choices key.now.places) }
 {
-    let Some(found) = found_pair(bars, extension, &key.places) else {
-        return Ok(None);
-    };
     if !is_before(key, incumbent) {
-        return Ok(Some(found));
+        return Ok(found_pair(bars, extension, &key.places));
     }
-    fewest_open(alloc, bars, extension, &key.places)
+    splitting_pair(alloc, bars, extension, &key.places)
 }
 
 /// The first pair that is found to keep solving places from being a drawing; `None` exactly where
@@ -71,23 +66,6 @@ fn found_pair(bars: &Bars, extension: &Extension, places: &Places) -> Option<(u3
     ensures { IsPairAt bars.now places.now result }
 {
     sharing_pair(bars, places)
-}
-
-/// The pair with the fewest open sides among those that keep solving places from being a drawing;
-/// `None` exactly where they are one.
-fn fewest_open(
-    alloc: Global,
-    bars: &Bars,
-    extension: &Extension,
-    places: &Places,
-) -> Result<Option<(u32, u32)>, NoMemory>
-    requires fit { Fit bars.now extension.now.choices }
-    requires solves { Solves bars.now extension.now.choices places.now }
-    ensures { IfOk result (λ found. MatchOption found (IsDrawing bars.now places.now)
-        (λ pair. IsBranchPair bars.now extension.now.choices places.now pair.0 pair.1)) }
-{
-    let reach = reach_of(alloc, bars, extension)?;
-    Ok(branch_pair(bars, &reach, places))
 }
 
 /// Whether the key comes before the other.

@@ -8,6 +8,7 @@ use potentials::TotalLength;
 use std::alloc::Global;
 use std::test::Fail;
 
+mod board_table;
 mod examples;
 
 /// The entry of a claim by the only worker.

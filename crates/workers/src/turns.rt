@@ -1,13 +1,14 @@
 //! The turns of a search: in each, one branch is claimed, solved and settled.
 
-ghost use Rattle.std.specs.Prelude.{◌≡◌, IfOk, OnOk};
+ghost use Rattle.std.specs.Prelude.{◌≡◌, IfOk, MatchOption, OnOk};
 ghost use Rattle.board.specs.Boards.{IsCaller, IsLatestWaiting, after_claim, board_state};
 ghost use Rattle.board.specs.Facts.{IsDrawnKey};
 ghost use Rattle.board.specs.Histories.{IsHeldBy, choices_of};
 ghost use Rattle.board.specs.Verdicts.{IsPairFor, IsSoundVerdict};
 ghost use Rattle.bars.specs.Solutions.{Fit};
-ghost use Rattle.shape_graphs.specs.Measures.{IsAsked};
-ghost use Rattle.workers.specs.inner.Turns.{AreAllSettled, IsAfterTurn, IsBetweenTurns, IsSettledBy};
+ghost use Rattle.shape_graphs.specs.Measures.{BacksBefore, IsAsked};
+ghost use Rattle.workers.specs.inner.Turns.{AreAllSettled, IsAfterTurn, IsBetweenTurns};
+ghost use Rattle.workers.specs.inner.Turns.{IsSettledBy};
 
 use crate::pairs::pair_of;
 use bars::Bars;
@@ -48,7 +49,8 @@ fn turn<M: Measure>(
     ensures { OnOk result (IsAfterTurn bars.now who board.old board.new) }
 {
     take(board, who, branch);
-    let verdict = verdict_on(alloc, measure, bars, &branch.choices, board.best())?;
+    let start = board.proof_before(branch.id);
+    let verdict = verdict_on(alloc, measure, bars, &branch.choices, start, board.best())?;
     let pair = pair_of(alloc, bars, &branch.choices, &verdict, board.best())?;
     settle(board, who, branch.id, verdict, pair)
 }
@@ -62,22 +64,25 @@ fn take<P: Backing>(board: &mut Board<P>, who: u32, branch: &Branch)
     let _granted = board.claim(who, branch);
 }
 
-/// The verdict on the choices, which need not be better than the incumbent's worth.
-fn verdict_on<M: Measure>(
+/// The verdict on the choices, which need not be better than the incumbent's worth. The solver may
+/// begin with the proof of a verdict on the choices without the last, where there is one.
+pub(crate) fn verdict_on<M: Measure>(
     alloc: Global,
     measure: &M,
     bars: &Bars,
     extension: &Extension,
+    start: Option<&M::Proof>,
     incumbent: &Key,
 ) -> Result<Verdict<M::Proof>, NoMemory>
     requires fit { Fit bars.now extension.now.choices }
+    requires start { MatchOption start (Unit {0}) (λ proof.
+        BacksBefore (M.Proof.backs bars.now) extension.now.choices proof.now) }
     requires incumbent { IsDrawnKey M.Proof.objective bars.now incumbent.now }
     ensures sound { IfOk result
         (IsSoundVerdict M.Proof.objective M.Proof.backs bars.now extension.now.choices) }
     ensures asked { IfOk result (IsAsked incumbent.now.worth) }
 {
-    let start: Option<M::Proof> = None;
-    measure.solve(alloc, bars, extension, start.as_ref(), incumbent.worth)
+    measure.solve(alloc, bars, extension, start, incumbent.worth)
 }
 
 /// Settles the branch that the caller holds. Memory alone can be refused.

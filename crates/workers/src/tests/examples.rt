@@ -1,15 +1,19 @@
 //! Small drawings.
 
-ghost use Rattle.std.specs.Prelude.{IfOk, IfSome};
+ghost use Rattle.std.specs.Prelude.{◌≡◌, IfOk, IfSome};
 ghost use Rattle.compact_types.specs.Drawings.{IsDrawing};
 ghost use Rattle.compact_types.specs.Magnitudes.{AreWithin};
 ghost use Rattle.compact_types.specs.declared.limits.TheConstants.{GREATEST_THOUSANDTHS};
+ghost use Rattle.board.specs.Facts.{IsDrawnKey};
 
 use bars::{Bars, bars_of};
+use board::Board;
 use compact_types::{
-    Items, MOST_PIECES, MOST_VERTICES, NoMemory, Piece, Places, Plan, Point, Refusal,
+    Items, Key, MOST_PIECES, MOST_VERTICES, NoMemory, Piece, Places, Plan, Point, Refusal,
+    shift_to_zero,
 };
 use drawing_check::check;
+use shape_graphs::Measure;
 use std::alloc::Global;
 
 /// The places at these points.
@@ -71,4 +75,36 @@ fn plan_of(
         pieces.push(Piece { from, to })?;
     }
     Ok(Some(Plan { vertices, pieces }))
+}
+
+/// A new board of the drawing of these points and pieces, with two callers. Its key is that of the
+/// drawing, moved to zero. `None` where they make no drawing.
+pub(crate) fn board_of<M: Measure>(
+    alloc: Global,
+    measure: &M,
+    points: &[(u8, u8)],
+    ends: &[(u32, u32)],
+) -> Result<Option<Board<M::Proof>>, NoMemory>
+    ensures { IfOk result (λ made. IfSome made (λ board. board.given ≡ 2)) }
+{
+    let Some((bars, places)) = drawn(alloc, points, ends)? else {
+        return Ok(None);
+    };
+    let key = key_of(measure, &bars, places);
+    let mut board = Board::open_with(alloc, &bars, key)?;
+    let _one = board.enlist();
+    let _two = board.enlist();
+    Ok(Some(board))
+}
+
+/// The key of the drawing, moved to zero.
+fn key_of<M: Measure>(measure: &M, bars: &Bars, mut places: Places) -> Key
+    requires drawing { IsDrawing bars.now places }
+    requires near { AreWithin GREATEST_THOUSANDTHS places }
+    ensures { IsDrawnKey M.Proof.objective bars.now result }
+{
+    let worth = measure.worth(bars, &places);
+    let _sound = bars.shape();
+    shift_to_zero(&mut places);
+    Key { worth, places }
 }

@@ -1,4 +1,8 @@
+use Rattle.std.proofs.Common.{List, MatchOption, subst}
 use Rattle.std.proofs.lemmas.Result.{on_ok_weaker}
+use Rattle.compact_types.specs.declared.plan.Shape.{Shape}
+use Rattle.compact_types.specs.declared.search.Choice.{Choice}
+use Rattle.shape_graphs.specs.Measures.{BacksBefore}
 use Rattle.board.specs.Boards.{board_state}
 use Rattle.board.specs.Histories.{choices_of}
 use Rattle.workers.proofs.TurnLemmas.{claimed_from, sound_on_board, after_turn}
@@ -10,6 +14,16 @@ verdict_on-requires-clause-fit g c κs within =
     claimed_from g.M.Proof.Backing.objective g.M.Proof.Backing.backs c.args.bars.now c.args.who c.args.board.now c.requires.between
     c.args.branch.now c.requires.branch c.take.new.board c.take.ensures c.best.ensures.facts in
     known.fit
+
+pub verdict_on-requires-clause-start : goal.verdict_on-requires-clause-start
+verdict_on-requires-clause-start g c κs within =
+    let known =
+    claimed_from g.M.Proof.Backing.objective g.M.Proof.Backing.backs c.args.bars.now c.args.who c.args.board.now c.requires.between
+    c.args.branch.now c.requires.branch c.take.new.board c.take.ensures c.best.ensures.facts in
+    subst (λ (shape : Shape). MatchOption c.proof_before-start.result (Unit {0})
+    (λ proof. BacksBefore (g.M.Proof.Backing.backs shape) c.args.branch.now.choices.choices proof.now)) known.shape_kept
+    (subst (λ (choices : List Choice). MatchOption c.proof_before-start.result (Unit {0})
+    (λ proof. BacksBefore (g.M.Proof.Backing.backs c.take.new.board.shape) choices proof.now)) known.choices c.proof_before-start.ensures.proof)
 
 pub pair_of-requires-clause-fit : goal.pair_of-requires-clause-fit
 pair_of-requires-clause-fit g c κs within =
