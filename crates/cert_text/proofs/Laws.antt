@@ -1,0 +1,12 @@
+-- The laws of this crate as plain lemmas. The proofs of the crates above import this module alone.
+
+-- what is accepted is best
+pub use Rattle.cert_text.proofs.AcceptedBest.{accepted_best}
+-- what entries say of the drawings of their choices
+pub use Rattle.cert_text.proofs.EntryLemmas.{none_at_cycle, none_at_bound, tight_from_least}
+-- how deep entries lie
+pub use Rattle.cert_text.proofs.TreeLaws.{whole_shallow, shallower_from}
+-- a text has one certificate or one first fault
+pub use Rattle.cert_text.proofs.ReadEvery.{one_certificate}
+-- a certificate that is printed behind whole lines is read
+pub use Rattle.cert_text.proofs.ReadPrinted.{printed_certificate}

@@ -1,0 +1,5 @@
+pub mod Positives
+pub mod Outlines
+pub mod Bodies
+pub mod Lines
+pub mod Reading

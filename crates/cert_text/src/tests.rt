@@ -1,0 +1,5 @@
+//! Certificates and their texts.
+
+mod faults;
+mod printing;
+mod reading;
