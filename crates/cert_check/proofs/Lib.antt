@@ -1,0 +1,13 @@
+pub mod WalkLemmas
+pub mod BranchLemmas
+pub mod FaultLemmas
+pub mod DecisionLemmas
+pub mod CompareLemmas
+pub mod ZeroLemmas
+pub mod CycleLemmas
+pub mod BoundLemmas
+pub mod TestLemmas
+pub mod ArcLemmas
+pub mod Deciding
+pub mod EveryAnswer
+pub mod Laws

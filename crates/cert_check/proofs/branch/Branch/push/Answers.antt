@@ -1,0 +1,29 @@
+use Rattle.std.proofs.Common.{refl, sym, ◌∙◌}
+use Rattle.compact_types.specs.declared.places.Axis.TheVariants.{X, Y}
+use Rattle.cert_check.proofs.BranchLemmas.{graph_more, last_fits, pushed_x, pushed_y}
+use Rattle.cert_check.proofs.branch.Branch.push.Goals as goal
+
+pub side_arc-arc-requires : goal.side_arc-arc-requires
+side_arc-arc-requires c = last_fits c.args.bars.now c.args.self.now.choices c.args.choice c.requires.fit
+
+pub push-requires-in-X : goal.push-requires-in-X
+push-requires-in-X c =
+    graph_more X c.args.bars.now c.args.self.now.choices c.args.choice c.args.self.now.columns c.side_arc-arc.result c.shape-what_is_known.ensures.sound
+    c.requires.fit c.requires.at.columns (sym c.axis_of_side.ensures ∙ c.in-X.is) c.side_arc-arc.ensures
+
+pub push-requires-in-Y : goal.push-requires-in-Y
+push-requires-in-Y c =
+    graph_more Y c.args.bars.now c.args.self.now.choices c.args.choice c.args.self.now.rows c.side_arc-arc.result c.shape-what_is_known.ensures.sound
+    c.requires.fit c.requires.at.rows (sym c.axis_of_side.ensures ∙ c.in-Y.is) c.side_arc-arc.ensures
+
+pub returns-in_ok-push-in-X-clause-at : goal.returns-in_ok-push-in-X-clause-at
+returns-in_ok-push-in-X-clause-at c =
+    pushed_x c.args.bars.now c.args.self.now _ c.args.choice c.side_arc-arc.result c.requires.fit c.side_arc-arc.ensures c.in_ok-push.ensures.ok
+    c.requires.at (sym c.axis_of_side.ensures ∙ c.in-X.is)
+    (record { nodes = c.push-in-X.ensures.nodes; arcs = c.in_ok-push-in-X.ensures.arcs; amounts = c.in_ok-push-in-X.ensures.amounts }) refl
+
+pub returns-in_ok-push-in-Y-clause-at : goal.returns-in_ok-push-in-Y-clause-at
+returns-in_ok-push-in-Y-clause-at c =
+    pushed_y c.args.bars.now c.args.self.now _ c.args.choice c.side_arc-arc.result c.requires.fit c.side_arc-arc.ensures c.in_ok-push.ensures.ok
+    c.requires.at (sym c.axis_of_side.ensures ∙ c.in-Y.is)
+    (record { nodes = c.push-in-Y.ensures.nodes; arcs = c.in_ok-push-in-Y.ensures.arcs; amounts = c.in_ok-push-in-Y.ensures.amounts }) refl

@@ -1,0 +1,4 @@
+pub mod Loading
+pub mod Branches
+pub mod Comparing
+pub mod Flowing
