@@ -6,7 +6,7 @@ use Rattle.std.proofs.Math.Seq.{get_or-append_seam}
 use Rattle.std.proofs.lemmas.List.{get_or_append_left}
 use Rattle.std.proofs.lemmas.Bool.{cases_lt}
 use Rattle.std.proofs.lemmas.Int.{ints}
-use Rattle.compact_types.specs.declared.limits.TheConstants.{MOST_CHOICES, MOST_VERTICES}
+use Rattle.compact_types.specs.declared.limits.TheConstants.{MOST_CHOICES}
 use Rattle.compact_types.specs.declared.places.Axis.{Axis}
 use Rattle.compact_types.specs.declared.places.Axis.TheVariants.{X, Y}
 use Rattle.compact_types.specs.declared.places.Key.{Key}
@@ -22,7 +22,7 @@ use Rattle.compact_types.proofs.Laws.{one_best, same_key}
 use Rattle.bars.specs.Segments.{segment_count, IsPair}
 use Rattle.bars.specs.Sides.{side_axis}
 use Rattle.bars.specs.Solutions.{choice_at, with_choice, IsChoice, IsSound, Fit, Solves}
-use Rattle.shape_graphs.specs.Graphs.{arcs_of, side_arc}
+use Rattle.shape_graphs.specs.Graphs.{arcs_of}
 use Rattle.shape_graphs.specs.Measures.{HaveNoCycle}
 use Rattle.shape_graphs.specs.Paths.{HasCycle}
 use Rattle.shape_graphs.specs.Separation.{IsSeparated, IsComplete}

@@ -1,4 +1,5 @@
 pub mod Words
+pub mod TextLimits
 pub mod WordLists
 pub mod Lines
 pub mod Refusals
@@ -11,6 +12,18 @@ pub mod Among
 pub mod BestDrawings
 pub mod Sound
 pub mod OneSummary
+pub mod SamplePieces
+pub mod SampleMeetings
+pub mod SampleDrawings
+pub mod SampleSizes
+pub mod SampleLaws
+pub mod ScaledUp
+pub mod WrittenTexts
+pub mod WrittenCertificates
+pub mod DrawnIsProved
+pub mod GridAnswers
+pub mod ProvedAnswers
 pub mod CommandAnswers
 pub mod CommandOutputs
+pub mod SampleOutputs
 pub mod RunEnds

@@ -1,5 +1,5 @@
 -- How long the parts of a line are.
-use Rattle.std.proofs.Common.{◌≡◌, ℕ, ℤ, ◌+◌, ◌^◌, ◌<◌, ◌≤◌, List, ◌++◌, length, decimal, length-append, arith, lit≤, ◌∙◌, ap, w64, FitsSigned, append_assoc, take, refl, zero, suc, [], ◌∷◌, take_all, min, ◌-◌, sym}
+use Rattle.std.proofs.Common.{◌≡◌, ℕ, ℤ, ◌+◌, ◌^◌, ◌<◌, ◌≤◌, List, ◌++◌, length, decimal, codes, length-append, arith, lit≤, ◌∙◌, ap, w64, FitsSigned, append_assoc, take, refl, zero, suc, [], ◌∷◌, take_all, min, ◌-◌, sym}
 use Rattle.std.specs.Fmt.{signed_decimal}
 use Rattle.std.proofs.Math.Seq.{take-append-add}
 use Rattle.std.proofs.lemmas.List.{take_min}
@@ -8,9 +8,15 @@ use Rattle.gml_text.specs.declared.fault.GmlKind.{GmlKind}
 use Rattle.gml_text.specs.declared.fault.GmlKind.TheVariants.{BadKey, BadValue, BadNumeral, OpenString, OpenList, StrayClose, TooDeep}
 use Rattle.gml_text.specs.declared.number.NumberFault.{NumberFault}
 use Rattle.gml_text.specs.declared.number.NumberFault.TheVariants.{TooFine, OutOfRange}
+use Rattle.compact_types.specs.declared.places.Axis.{Axis}
+use Rattle.compact_types.specs.declared.places.Axis.TheVariants.{X, Y}
+use Rattle.cert_text.specs.declared.fault.CertFault.{CertFault}
+use Rattle.cert_text.specs.declared.fault.CertKind.{CertKind}
+use Rattle.cert_text.specs.declared.fault.CertKind.TheVariants.{NoCertificate, BadLine, MissingBranch, TrailingLine}
+use Rattle.cert_text.specs.Texts.{axis_text}
 use Rattle.compact_main.specs.declared.note.TheConstants.{NOTE_ROOM}
 use Rattle.compact_main.specs.inner.Rooms.{IsAdded}
-use Rattle.compact_main.specs.Notes.{kind_text, cause_text, around}
+use Rattle.compact_main.specs.Notes.{kind_text, cause_text, around, cert_kind_text, cert_text}
 
 pub decimal_short : (n : ℕ) → n < 2 ^ 64 → length (decimal n) ≤ 20
 decimal_short n within = length-decimal-le 20 n (omega arith) (omega arith) within
@@ -35,6 +41,19 @@ kind_length TooDeep = lit≤ tt
 pub cause_length : (cause : NumberFault) → length (cause_text cause) ≤ 20
 cause_length TooFine = lit≤ tt
 cause_length OutOfRange = lit≤ tt
+
+cert_kind_length : (line : ℕ) (kind : CertKind) → length (decimal line) ≤ 20 → length (cert_kind_text line kind) ≤ 60
+cert_kind_length line NoCertificate short = lit≤ tt
+cert_kind_length line BadLine short = let is = around_length (codes "line ") line (codes " is bad") in omega (arith, is, short)
+cert_kind_length line MissingBranch short = let is = around_length (codes "line ") line (codes " lacks a branch") in omega (arith, is, short)
+cert_kind_length line TrailingLine short = let is = around_length (codes "line ") line (codes " is too many") in omega (arith, is, short)
+
+pub cert_length : (fault : CertFault) → length (decimal fault.line) ≤ 20 → length (cert_text fault) ≤ 60
+cert_length fault short = cert_kind_length fault.line fault.kind short
+
+pub axis_length : (axis : Axis) → length (axis_text axis) ≤ 1
+axis_length X = lit≤ tt
+axis_length Y = lit≤ tt
 
 -- a text that is cut off and added to, and cut off again
 pub cut_twice : {A : Type 0} (room : ℕ) (xs ys : List A) → take room (take room xs ++ ys) ≡ take room (xs ++ ys)

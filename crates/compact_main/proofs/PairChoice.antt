@@ -4,7 +4,7 @@ use Rattle.std.proofs.lemmas.Bool.{cases_eq, cases_lt}
 use Rattle.compact_types.specs.declared.plan.Shape.{Shape}
 use Rattle.compact_types.specs.declared.search.Choice.{Choice}
 use Rattle.bars.specs.Lines.{line_of}
-use Rattle.bars.specs.Segments.{segment_at, segment_count, IsOnSegment, ShareVertex, IsPair}
+use Rattle.bars.specs.Segments.{segment_at, segment_count, ShareVertex, IsPair}
 use Rattle.bars.specs.Sides.{side_axis}
 use Rattle.shape_graphs.specs.Graphs.{side_arc, arcs_of}
 use Rattle.shape_graphs.specs.Separation.{IsKept, IsSeparated}

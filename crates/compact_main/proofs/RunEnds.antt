@@ -1,37 +1,66 @@
 -- How a run of one command may end.
-use Rattle.std.proofs.Common.{◌≡◌, ℕ, ◌+◌, ◌<◌, List, ◌++◌, length, Option, None, Some, inl, inr, refl, sym, ap, ◌∙◌, subst, append-nil, length-append, arith}
+use Rattle.std.proofs.Common.{◌≡◌, ℕ, ◌+◌, ◌<◌, ◌≤◌, List, ◌∷◌, ◌++◌, length, codes, Option, None, Some, inl, inr, refl, sym, ap, ◌∙◌, subst, append-nil, length-append, arith}
 use Rattle.std.specs.Io.KnownBytes.{Consumes, IsAtEnd, Appends}
 use Rattle.io_ends.specs.Counts.{Rose, Counted}
 use Rattle.io_ends.specs.Ends.{AppendsFront}
+use Rattle.io_ends.specs.declared.transfer.ReadEnd.TheVariants as ends
 use Rattle.compact_main.specs.declared.command.Command.{Command}
 use Rattle.compact_main.specs.declared.command.Command.TheVariants as commands
+use Rattle.compact_main.specs.declared.status.Failure.{Failure}
+use Rattle.compact_main.specs.declared.status.Failure.TheVariants as failures
 use Rattle.compact_main.specs.declared.status.Why.{Why}
 use Rattle.compact_main.specs.declared.status.Why.TheVariants.{TooLong}
 use Rattle.compact_main.specs.declared.status.Status.{Status}
-use Rattle.compact_main.specs.declared.status.Status.TheVariants.{Done, Refused, WriteFault}
-use Rattle.compact_main.specs.Commands.{AskForPlain, Asks, IsThe}
-use Rattle.compact_main.specs.Intakes.{intake_of, limit_of, Takes, IsReadOut, IsGiven}
-use Rattle.compact_main.specs.Outputs.{Output, IsValid, FirstFault}
-use Rattle.compact_main.specs.Runs.{Answers, IsRefused, Completes, IsRun}
+use Rattle.compact_main.specs.declared.status.Status.TheVariants.{Done, Refused, ReadFault, WriteFault, NoMemory}
+use Rattle.compact_main.specs.declared.sample.TheConstants.{MOST_SAMPLE}
+use Rattle.compact_main.specs.Commands.{AskForDrawing, Asks, IsNumberTo, IsThe}
+use Rattle.compact_main.specs.Intakes.{Intake, intake_of, most_of, limit_of, Takes, IsReadOut, MayFailAfter, IsGiven}
+use Rattle.compact_main.specs.Intakes.Intake.{a_text, nothing}
+use Rattle.compact_main.specs.Outputs.{Output, IsValid, FirstRefusal, FirstFault}
+use Rattle.compact_main.specs.Runs.{Answers, IsFailed, Completes, IsRun}
+use Rattle.compact_main.specs.Statuses.{status_of}
+use Rattle.compact_main.specs.inner.Readings.{IsGivenUp}
 use Rattle.compact_main.specs.inner.Writes.{IsWritten}
 use Rattle.compact_main.proofs.CommandAnswers.{output_valid, command_answer}
-use Rattle.compact_main.proofs.WordLists.{one_plain_pitch}
+use Rattle.compact_main.proofs.WordLists.{one_drawing, one_number}
 
 -- the words ask for one command at most
+first_word : (words : List (List ℕ)) {a b : List ℕ} {rest others : List (List ℕ)} → words ≡ a ∷ rest → words ≡ b ∷ others → a ≡ b
+first_word words p q = let both = sym p ∙ q in cc
+
 pub one_command : (words : List (List ℕ)) (a b : Command) → Asks words a → Asks words b → a ≡ b
-one_command words (commands.Draw a) (commands.Draw b) (options, p, asked) (others, q, also) =
+one_command words (commands.Draw a c) (commands.Draw b d) (po, p, pa) (qo, q, qa) =
     let both = sym p ∙ q in
-    let same : options ≡ others = cc in
-    ap (λ (pitch : ℕ). commands.Draw pitch)
-    (one_plain_pitch others a b (subst (λ (o : List (List ℕ)). AskForPlain o a) same asked) also)
-one_command words (commands.Draw a) commands.Check (options, p, asked) q = let both = sym p ∙ q in cc
-one_command words (commands.Draw a) commands.Measure (options, p, asked) q = let both = sym p ∙ q in cc
-one_command words commands.Check (commands.Draw b) p (options, q, asked) = let both = sym p ∙ q in cc
+    let same : po ≡ qo = cc in
+    let equal = one_drawing qo a b c d (subst (λ (o : List (List ℕ)). AskForDrawing o a c) same pa) qa in
+    λ i. commands.Draw (equal.0 i) (equal.1 i)
+one_command words (commands.Draw a c) commands.Check (po, p, pa) q = let no : codes "draw" ≡ codes "check" = first_word words p q in cc
+one_command words (commands.Draw a c) commands.Measure (po, p, pa) q = let no : codes "draw" ≡ codes "measure" = first_word words p q in cc
+one_command words (commands.Draw a c) commands.Verify (po, p, pa) q = let no : codes "draw" ≡ codes "verify" = first_word words p q in cc
+one_command words (commands.Draw a c) (commands.Sample b) (po, p, pa) (qd, q, qa) = let no : codes "draw" ≡ codes "sample" = first_word words p q in cc
+one_command words commands.Check (commands.Draw b d) p (qo, q, qa) = let no : codes "check" ≡ codes "draw" = first_word words p q in cc
 one_command words commands.Check commands.Check p q = refl
-one_command words commands.Check commands.Measure p q = let both = sym p ∙ q in cc
-one_command words commands.Measure (commands.Draw b) p (options, q, asked) = let both = sym p ∙ q in cc
-one_command words commands.Measure commands.Check p q = let both = sym p ∙ q in cc
+one_command words commands.Check commands.Measure p q = let no : codes "check" ≡ codes "measure" = first_word words p q in cc
+one_command words commands.Check commands.Verify p q = let no : codes "check" ≡ codes "verify" = first_word words p q in cc
+one_command words commands.Check (commands.Sample b) p (qd, q, qa) = let no : codes "check" ≡ codes "sample" = first_word words p q in cc
+one_command words commands.Measure (commands.Draw b d) p (qo, q, qa) = let no : codes "measure" ≡ codes "draw" = first_word words p q in cc
+one_command words commands.Measure commands.Check p q = let no : codes "measure" ≡ codes "check" = first_word words p q in cc
 one_command words commands.Measure commands.Measure p q = refl
+one_command words commands.Measure commands.Verify p q = let no : codes "measure" ≡ codes "verify" = first_word words p q in cc
+one_command words commands.Measure (commands.Sample b) p (qd, q, qa) = let no : codes "measure" ≡ codes "sample" = first_word words p q in cc
+one_command words commands.Verify (commands.Draw b d) p (qo, q, qa) = let no : codes "verify" ≡ codes "draw" = first_word words p q in cc
+one_command words commands.Verify commands.Check p q = let no : codes "verify" ≡ codes "check" = first_word words p q in cc
+one_command words commands.Verify commands.Measure p q = let no : codes "verify" ≡ codes "measure" = first_word words p q in cc
+one_command words commands.Verify commands.Verify p q = refl
+one_command words commands.Verify (commands.Sample b) p (qd, q, qa) = let no : codes "verify" ≡ codes "sample" = first_word words p q in cc
+one_command words (commands.Sample a) (commands.Draw b d) (pd, p, pa) (qo, q, qa) = let no : codes "sample" ≡ codes "draw" = first_word words p q in cc
+one_command words (commands.Sample a) commands.Check (pd, p, pa) q = let no : codes "sample" ≡ codes "check" = first_word words p q in cc
+one_command words (commands.Sample a) commands.Measure (pd, p, pa) q = let no : codes "sample" ≡ codes "measure" = first_word words p q in cc
+one_command words (commands.Sample a) commands.Verify (pd, p, pa) q = let no : codes "sample" ≡ codes "verify" = first_word words p q in cc
+one_command words (commands.Sample a) (commands.Sample b) (pd, p, pa) (qd, q, qa) =
+    let both = sym p ∙ q in
+    let same : pd ≡ qd = cc in
+    ap (λ (n : ℕ). commands.Sample n) (one_number MOST_SAMPLE qd a b (omega arith) (subst (λ (d : List ℕ). IsNumberTo MOST_SAMPLE d a) same pa) qa)
 
 -- what was read to the end is all that was left
 read_whole : (left left' : Option (List ℕ)) (text bytes : List ℕ) → left ≡ Some text → Consumes left left' bytes → IsAtEnd left' → bytes ≡ text
@@ -41,29 +70,44 @@ read_whole left left' text bytes known read end = by_rest left' (subst (λ (l : 
     by_rest None r e = absurd r
     by_rest (Some rest) r e = sym (r ∙ ap (λ xs. bytes ++ xs) e ∙ append-nil bytes)
 
--- what each command reads is a text
+-- what was read is the whole text, where one is read
 module _ {S : Type 0} (left : S → Option (List ℕ)) (read_faults : S → ℕ) (source source' : S) where
-  takes : (command : Command) (bytes : List ℕ) → Consumes (left source) (left source') bytes → Takes (intake_of command) left source source' bytes
-  takes (commands.Draw pitch) bytes read = read
-  takes commands.Check bytes read = read
-  takes commands.Measure bytes read = read
+  whole_text : (intake : Intake) (text whole : List ℕ) → IsGiven intake left read_faults source source' whole → Takes intake left source source' text →
+      IsReadOut intake left source' → text ≡ whole
+  whole_text (a_text limit) text whole given read end = read_whole (left source) (left source') whole text given.0 read end
+  whole_text nothing text whole given read end = read.1 ∙ sym given
 
-  read_out : (command : Command) → IsAtEnd (left source') → IsReadOut (intake_of command) left source'
-  read_out (commands.Draw pitch) end = end
-  read_out commands.Check end = end
-  read_out commands.Measure end = end
+  -- what was given before the reading was given up
+  pub gave_too_much : (intake : Intake) → IsGivenUp intake left source source' ends.TooLong →
+      (given : List ℕ) × Takes intake left source source' given × FirstRefusal intake given TooLong
+  gave_too_much (a_text limit) (given, read, more) = (given, read, more)
+  gave_too_much nothing none = absurd none
 
-  given_text : (command : Command) (text : List ℕ) → IsGiven (intake_of command) left read_faults source source' text →
-      (left source ≡ Some text) × (Rose (read_faults source) (read_faults source') → ⊥)
-  given_text (commands.Draw pitch) text given = given
-  given_text commands.Check text given = given
-  given_text commands.Measure text given = given
+  gave_some : (intake : Intake) → IsGivenUp intake left source source' ends.ReadFault →
+      (given : List ℕ) × Takes intake left source source' given × MayFailAfter intake given
+  gave_some (a_text limit) (given, read, within) = (given, read, within)
+  gave_some nothing none = absurd none
+
+  pub gave_no_more : (intake : Intake) → IsGivenUp intake left source source' ends.NoMemory →
+      (given : List ℕ) × Takes intake left source source' given × (length given ≤ most_of intake)
+  gave_no_more (a_text limit) (given, read, within) = (given, read, within)
+  gave_no_more nothing none = absurd none
+
+  -- a text of which a read failed was not given without one
+  not_given : (intake : Intake) (whole : List ℕ) → IsGivenUp intake left source source' ends.ReadFault →
+      Rose (read_faults source) (read_faults source') → IsGiven intake left read_faults source source' whole → ⊥
+  not_given (a_text limit) whole up rose given = given.1 rose
+  not_given nothing whole up rose given = up
 
 -- the same answers, where the same commands are asked for
 module _ {S : Type 0} {A B : Command → Type 0} (to : (c : Command) → A c → B c) (left : S → Option (List ℕ)) (source source' : S) where
   answers_for : (written : List ℕ) → Answers A left source source' written → Answers B left source source' written
   answers_for written a =
       record { command = a.command; text = a.text; asked = to a.command a.asked; read = a.read; to_the_end = a.to_the_end; output = a.output }
+
+  failed_to : (failure : Failure) → IsFailed A failure left source source' → IsFailed B failure left source source'
+  failed_to failure d =
+      record { command = d.command; text = d.text; asked = to d.command d.asked; read = d.read; to_the_end = d.to_the_end; fault = d.fault }
 
 -- the same run
 module _ {S K : Type 0} {A B : Command → Type 0} (to : (c : Command) → A c → B c) (back : (c : Command) → B c → A c)
@@ -78,8 +122,8 @@ module _ {S K : Type 0} {A B : Command → Type 0} (to : (c : Command) → A c �
         record { written = d.written; answers = answers_for to left source source' d.written d.answers; appended = d.appended };
     write_fault = λ is. let d = run.write_fault is in
         record { written = d.written; answers = answers_for to left source source' d.written d.answers; appended = d.appended };
-    refused = λ why is. let d = run.refused why is in
-        record { command = d.command; text = d.text; asked = to d.command d.asked; read = d.read; to_the_end = d.to_the_end; fault = d.fault };
+    refused = λ why is. failed_to to left source source' (failures.Refused why) (run.refused why is);
+    not_proved = λ unproved is. failed_to to left source source' (failures.NotProved unproved) (run.not_proved unproved is);
     read_fault = λ is. let d = run.read_fault is in
         record { command = d.command; given = d.given; asked = to d.command d.asked; read = d.read; within = d.within };
     no_memory = λ is. let d = run.no_memory is in
@@ -92,32 +136,46 @@ module _ {S K : Type 0} {A B : Command → Type 0} (to : (c : Command) → A c �
     completes = λ command text asked. run.completes command text (back command asked);
   }
 
--- a run whose text was refused
+-- a run that has no answer for its text
 module _ {S K : Type 0} (command : Command)
-    (left : S → Option (List ℕ)) (read_faults : S → ℕ) (source source' : S) (held : K → Option (List ℕ)) (write_faults : K → ℕ) (out : K) where
-  refused_for : (found why : Why) (text : List ℕ) → Refused found ≡ Refused why → Consumes (left source) (left source') text →
-      IsAtEnd (left source') → FirstFault command text found → IsRefused (IsThe command) why left source source'
-  refused_for found why text is read end fault =
-      let same : found ≡ why = cc in
-      subst (λ (w : Why). IsRefused (IsThe command) w left source source') same
+    (left : S → Option (List ℕ)) (read_faults : S → ℕ) (source source' : S) (held : K → Option (List ℕ)) (write_faults : K → ℕ) (out : K)
+    (text : List ℕ) (read : Takes (intake_of command) left source source' text) (end : IsReadOut (intake_of command) left source')
+    (same : read_faults source' ≡ read_faults source) where
+  failed_for : (found failure : Failure) → found ≡ failure → FirstFault command text found → IsFailed (IsThe command) failure left source source'
+  failed_for found failure is fault =
+      subst (λ (f : Failure). IsFailed (IsThe command) f left source source') is
       (record {
         command = command;
         text = text;
         asked = refl;
-        read = takes left read_faults source source' command text read;
-        to_the_end = λ other. read_out left read_faults source source' command end;
+        read = read;
+        to_the_end = λ other. end;
         fault = fault;
       })
 
-  pub refused_run : (why : Why) (text : List ℕ) → Consumes (left source) (left source') text → IsAtEnd (left source') →
-      FirstFault command text why → read_faults source' ≡ read_faults source →
-      IsRun (IsThe command) left read_faults source source' held write_faults out out (Refused why)
-  refused_run why text read end fault same = record {
+  -- no other answer is right
+  failed_alone : (found : Failure) → FirstFault command text found → (c : Command) (whole : List ℕ) → c ≡ command →
+      IsGiven (intake_of c) left read_faults source source' whole → Completes c whole (status_of found)
+  failed_alone found fault c whole asked given =
+      let told = subst (λ (k : Command). IsGiven (intake_of k) left read_faults source source' whole) asked given in
+      let is_all = whole_text left read_faults source source' (intake_of command) text whole told read end in
+      let first : FirstFault command whole found = subst (λ (t : List ℕ). FirstFault command t found) is_all fault in
+      let one = command_answer command whole in
+      subst (λ (k : Command). Completes k whole (status_of found)) (sym asked) (record {
+        done = λ valid. absurd (one.not_both tt found valid first);
+        refused = λ why other. inl (ap status_of (one.one_fault found (failures.Refused why) first other));
+        not_proved = λ unproved other. inl (ap status_of (one.one_fault found (failures.NotProved unproved) first other));
+      })
+
+  pub failed_run : (found : Failure) → FirstFault command text found →
+      IsRun (IsThe command) left read_faults source source' held write_faults out out (status_of found)
+  failed_run (failures.Refused why) fault = record {
     bad_words = (λ is. absurd cc, λ none. absurd (none command refl));
     nothing_read = λ is. absurd cc;
     done = λ is. absurd cc;
     write_fault = λ is. absurd cc;
-    refused = λ other is. refused_for why other text is read end fault;
+    refused = λ other is. failed_for (failures.Refused why) (failures.Refused other) (cc) fault;
+    not_proved = λ unproved is. absurd cc;
     read_fault = λ is. absurd cc;
     no_memory = λ is. absurd cc;
     nothing_written = λ undone whole. refl;
@@ -125,15 +183,23 @@ module _ {S K : Type 0} (command : Command)
     read_uncounted = λ other. same;
     write_counted = λ is. absurd cc;
     write_uncounted = λ other. refl;
-    completes = λ c whole asked given steady.
-        let known = (given_text left read_faults source source' c whole given).0 in
-        let is_all = read_whole (left source) (left source') whole text known read end in
-        let first : FirstFault command whole why = subst (λ (t : List ℕ). FirstFault command t why) is_all fault in
-        let one = command_answer command whole in
-        subst (λ (k : Command). Completes k whole (Refused why)) (sym asked) (record {
-          done = λ valid. absurd (one.not_both tt why valid first);
-          refused = λ other found. inl (ap (λ w. Refused w) (one.one_fault why other first found));
-        });
+    completes = λ c whole asked given steady. failed_alone (failures.Refused why) fault c whole asked given;
+  }
+  failed_run (failures.NotProved unproved) fault = record {
+    bad_words = (λ is. absurd cc, λ none. absurd (none command refl));
+    nothing_read = λ is. absurd cc;
+    done = λ is. absurd cc;
+    write_fault = λ is. absurd cc;
+    refused = λ why is. absurd cc;
+    not_proved = λ other is. failed_for (failures.NotProved unproved) (failures.NotProved other) (cc) fault;
+    read_fault = λ is. absurd cc;
+    no_memory = λ is. absurd cc;
+    nothing_written = λ undone whole. refl;
+    read_counted = λ is. absurd cc;
+    read_uncounted = λ other. same;
+    write_counted = λ is. absurd cc;
+    write_uncounted = λ other. refl;
+    completes = λ c whole asked given steady. failed_alone (failures.NotProved unproved) fault c whole asked given;
   }
 
 -- more bytes than a command reads are too many
@@ -144,24 +210,30 @@ over_text left left' text given limit known read more = by_rest left' (subst (λ
     by_rest None r = absurd r
     by_rest (Some rest) r = let is : length text ≡ length given + length rest = ap length r ∙ length-append given rest in omega (arith, is, more)
 
--- a run whose text is too long
+over_whole : {S : Type 0} (left : S → Option (List ℕ)) (read_faults : S → ℕ) (source source' : S) (intake : Intake) (given whole : List ℕ) →
+    IsGiven intake left read_faults source source' whole → Takes intake left source source' given → FirstRefusal intake given TooLong → FirstRefusal intake whole TooLong
+over_whole left read_faults source source' (a_text limit) given whole told read more =
+    over_text (left source) (left source') whole given limit told.0 read more
+over_whole left read_faults source source' nothing given whole told read more = absurd more
+
+-- a run that gave its reading up
 module _ {S K : Type 0} (command : Command)
     (left : S → Option (List ℕ)) (read_faults : S → ℕ) (source source' : S) (held : K → Option (List ℕ)) (write_faults : K → ℕ) (out : K) where
-  long_for : (why : Why) (given : List ℕ) → Refused TooLong ≡ Refused why → Consumes (left source) (left source') given →
-      limit_of command < length given → IsRefused (IsThe command) why left source source'
+  long_for : (why : Why) (given : List ℕ) → Refused TooLong ≡ Refused why → Takes (intake_of command) left source source' given →
+      FirstFault command given (failures.Refused TooLong) → IsFailed (IsThe command) (failures.Refused why) left source source'
   long_for why given is read more =
       let same : TooLong ≡ why = cc in
-      subst (λ (w : Why). IsRefused (IsThe command) w left source source') same
+      subst (λ (w : Why). IsFailed (IsThe command) (failures.Refused w) left source source') same
       (record {
         command = command;
         text = given;
         asked = refl;
-        read = takes left read_faults source source' command given read;
+        read = read;
         to_the_end = λ other. absurd (other refl);
         fault = more;
       })
 
-  pub long_run : (given : List ℕ) → Consumes (left source) (left source') given → limit_of command < length given →
+  pub long_run : (given : List ℕ) → Takes (intake_of command) left source source' given → FirstFault command given (failures.Refused TooLong) →
       read_faults source' ≡ read_faults source →
       IsRun (IsThe command) left read_faults source source' held write_faults out out (Refused TooLong)
   long_run given read more same = record {
@@ -170,6 +242,7 @@ module _ {S K : Type 0} (command : Command)
     done = λ is. absurd cc;
     write_fault = λ is. absurd cc;
     refused = λ other is. long_for other given is read more;
+    not_proved = λ unproved is. absurd cc;
     read_fault = λ is. absurd cc;
     no_memory = λ is. absurd cc;
     nothing_written = λ undone whole. refl;
@@ -178,28 +251,74 @@ module _ {S K : Type 0} (command : Command)
     write_counted = λ is. absurd cc;
     write_uncounted = λ other. refl;
     completes = λ c whole asked told steady.
-        let known = (given_text left read_faults source source' c whole told).0 in
-        let first : FirstFault command whole TooLong =
-        over_text (left source) (left source') whole given (limit_of command) known read more in
+        let known = subst (λ (k : Command). IsGiven (intake_of k) left read_faults source source' whole) asked told in
+        let first : FirstFault command whole (failures.Refused TooLong) =
+        over_whole left read_faults source source' (intake_of command) given whole known read more in
         let one = command_answer command whole in
         subst (λ (k : Command). Completes k whole (Refused TooLong)) (sym asked) (record {
-          done = λ valid. absurd (one.not_both tt TooLong valid first);
-          refused = λ other found. inl (ap (λ w. Refused w) (one.one_fault TooLong other first found));
+          done = λ valid. absurd (one.not_both tt (failures.Refused TooLong) valid first);
+          refused = λ other found. inl (ap status_of (one.one_fault (failures.Refused TooLong) (failures.Refused other) first found));
+          not_proved = λ other found. inl (ap status_of (one.one_fault (failures.Refused TooLong) (failures.NotProved other) first found));
         });
+  }
+
+  pub fault_run : IsGivenUp (intake_of command) left source source' ends.ReadFault → Counted (read_faults source) (read_faults source') →
+      IsRun (IsThe command) left read_faults source source' held write_faults out out ReadFault
+  fault_run up counted = record {
+    bad_words = (λ is. absurd cc, λ none. absurd (none command refl));
+    nothing_read = λ is. absurd cc;
+    done = λ is. absurd cc;
+    write_fault = λ is. absurd cc;
+    refused = λ why is. absurd cc;
+    not_proved = λ unproved is. absurd cc;
+    read_fault = λ is.
+        let (given, read, within) = gave_some left read_faults source source' (intake_of command) up in
+        record { command = command; given = given; asked = refl; read = read; within = within };
+    no_memory = λ is. absurd cc;
+    nothing_written = λ undone whole. refl;
+    read_counted = λ is. counted;
+    read_uncounted = λ other. absurd (other refl);
+    write_counted = λ is. absurd cc;
+    write_uncounted = λ other. refl;
+    completes = λ c whole asked told steady.
+        let known = subst (λ (k : Command). IsGiven (intake_of k) left read_faults source source' whole) asked told in
+        absurd (not_given left read_faults source source' (intake_of command) whole up counted.rose known);
+  }
+
+  pub stopped_run : (given : List ℕ) → Takes (intake_of command) left source source' given → length given ≤ limit_of command →
+      read_faults source' ≡ read_faults source →
+      IsRun (IsThe command) left read_faults source source' held write_faults out out NoMemory
+  stopped_run given read within same = record {
+    bad_words = (λ is. absurd cc, λ none. absurd (none command refl));
+    nothing_read = λ is. absurd cc;
+    done = λ is. absurd cc;
+    write_fault = λ is. absurd cc;
+    refused = λ why is. absurd cc;
+    not_proved = λ unproved is. absurd cc;
+    read_fault = λ is. absurd cc;
+    no_memory = λ is. record { command = command; given = given; asked = refl; read = read; within = within };
+    nothing_written = λ undone whole. refl;
+    read_counted = λ is. absurd cc;
+    read_uncounted = λ other. same;
+    write_counted = λ is. absurd cc;
+    write_uncounted = λ other. refl;
+    completes = λ c whole asked told steady.
+        record { done = λ valid. inr refl; refused = λ why fault. inr refl; not_proved = λ unproved fault. inr refl };
   }
 
 -- a run that wrote, or began to
 module _ {S K : Type 0} (command : Command)
     (left : S → Option (List ℕ)) (read_faults : S → ℕ) (source source' : S) (held : K → Option (List ℕ)) (write_faults : K → ℕ) (out out' : K)
-    (text written : List ℕ) (read : Consumes (left source) (left source') text) (end : IsAtEnd (left source')) (output : Output command text written)
+    (text written : List ℕ) (read : Takes (intake_of command) left source source' text) (end : IsReadOut (intake_of command) left source')
+    (output : Output command text written)
     (same_read : read_faults source' ≡ read_faults source) where
   answers : Answers (IsThe command) left source source' written
   answers = record {
     command = command;
     text = text;
     asked = refl;
-    read = takes left read_faults source source' command text read;
-    to_the_end = read_out left read_faults source source' command end;
+    read = read;
+    to_the_end = end;
     output = output;
   }
 
@@ -211,6 +330,7 @@ module _ {S K : Type 0} (command : Command)
     done = λ is. record { written = written; answers = answers; appended = appended };
     write_fault = λ is. absurd cc;
     refused = λ why is. absurd cc;
+    not_proved = λ unproved is. absurd cc;
     read_fault = λ is. absurd cc;
     no_memory = λ is. absurd cc;
     nothing_written = λ undone whole. absurd (undone refl);
@@ -219,11 +339,15 @@ module _ {S K : Type 0} (command : Command)
     write_counted = λ is. absurd cc;
     write_uncounted = λ other. same_write;
     completes = λ c whole asked given steady.
-        let known = (given_text left read_faults source source' c whole given).0 in
-        let is_all = read_whole (left source) (left source') whole text known read end in
+        let known = subst (λ (k : Command). IsGiven (intake_of k) left read_faults source source' whole) asked given in
+        let is_all = whole_text left read_faults source source' (intake_of command) text whole known read end in
         let valid : IsValid command whole = subst (λ (t : List ℕ). IsValid command t) is_all (output_valid command text written output) in
         subst (λ (k : Command). Completes k whole Done) (sym asked)
-        (record { done = λ v. inl refl; refused = λ why fault. absurd ((command_answer command whole).not_both tt why valid fault) });
+        (record {
+          done = λ v. inl refl;
+          refused = λ why fault. absurd ((command_answer command whole).not_both tt (failures.Refused why) valid fault);
+          not_proved = λ unproved fault. absurd ((command_answer command whole).not_both tt (failures.NotProved unproved) valid fault);
+        });
   }
 
   broken_run : AppendsFront (held out) (held out') written → Counted (write_faults out) (write_faults out') →
@@ -234,6 +358,7 @@ module _ {S K : Type 0} (command : Command)
     done = λ is. absurd cc;
     write_fault = λ is. record { written = written; answers = answers; appended = front };
     refused = λ why is. absurd cc;
+    not_proved = λ unproved is. absurd cc;
     read_fault = λ is. absurd cc;
     no_memory = λ is. absurd cc;
     nothing_written = λ undone whole. absurd (whole refl);

@@ -14,6 +14,7 @@ use Rattle.drawing_check.specs.Shapes.{IsShapeOf}
 use Rattle.bars.specs.Segments.{segment_count}
 use Rattle.bars.specs.Solutions.{IsSound}
 use Rattle.bars.proofs.Laws.{few_segments}
+use Rattle.compact_main.specs.inner.Proofs.{CanSearch}
 
 -- a reading keeps the limits
 pub within_limits : (tree : Tree) (reading : Reading) → IsReading tree reading → IsWithinLimits reading
@@ -33,6 +34,15 @@ sound_shape tree reading shape read is =
 -- the places that were read are a drawing of it
 pub is_drawing : (plan : Plan) (places : Places) (shape : Shape) → IsShapeOf plan places shape → IsDrawing shape places
 is_drawing plan places shape is = record { crossing_free = is.crossing_free }
+
+-- so a search can begin with them
+pub can_search : (tree : Tree) (reading : Reading) (shape : Shape) → IsReading tree reading → IsShapeOf reading.plan reading.places shape →
+    CanSearch shape reading.places
+can_search tree reading shape read is = record {
+  sound = sound_shape tree reading shape read is;
+  drawing = is_drawing reading.plan reading.places shape is;
+  near = (reading_within_limits tree reading read).within_reach;
+}
 
 pub few_segments_sound : (shape : Shape) → IsSound shape → segment_count shape ≤ MOST_VERTICES
 few_segments_sound shape sound = let few = few_segments shape sound.drawable in let most = sound.few_vertices in omega arith

@@ -9,12 +9,13 @@ use Rattle.std.proofs.lemmas.Bool.{both_ways}
 use Rattle.std.proofs.lemmas.Fmt.{decimal_injective, parse-decimal}
 use Rattle.std.proofs.lemmas.List.{length-map, take_rest}
 use Rattle.gml_print.specs.declared.limits.TheConstants.{MOST_PITCH}
+use Rattle.compact_main.specs.declared.sample.TheConstants.{MOST_SAMPLE}
 use Rattle.compact_main.specs.declared.command.Command.{Command}
 use Rattle.compact_main.specs.declared.command.Command.TheVariants as commands
 use Rattle.compact_main.specs.declared.command.Options.{Options}
-use Rattle.compact_main.specs.Commands.{texts_of, IsPitch, AreOptions, AskForPlain, Asks, HasPitch}
+use Rattle.compact_main.specs.Commands.{texts_of, IsNumberTo, AreOptions, AskForDrawing, Asks, IsWithinLimits}
 use Rattle.compact_main.specs.Commands.AreOptions.{no_option, plain_first, pitch_first}
-use Rattle.compact_main.specs.inner.Askings.{AreFound, IsAskedFor, IsCommand}
+use Rattle.compact_main.specs.inner.Askings.{AreFound, IsCommand}
 
 -- how many words they are
 flag_words : Bool → ℕ
@@ -47,10 +48,11 @@ few_options words plain given are =
     let flags = few_flags plain in
     let numbers = few_numbers given in omega (arith, is, flags, numbers)
 
--- digits say one pitch
-one_pitch : (digits : List ℕ) (a b : ℕ) → IsPitch digits a → IsPitch digits b → a ≡ b
-one_pitch digits a b first second =
-    decimal_injective a b (let most = first.most in omega (arith, most)) (let most = second.most in omega (arith, most)) (sym first.digits ∙ second.digits)
+-- digits say one number
+pub one_number : (greatest : ℕ) (digits : List ℕ) (a b : ℕ) → greatest < 2 ^ 32 → IsNumberTo greatest digits a → IsNumberTo greatest digits b → a ≡ b
+one_number greatest digits a b few first second =
+    decimal_injective a b (let most = first.most in omega (arith, most, few)) (let most = second.most in omega (arith, most, few))
+    (sym first.digits ∙ second.digits)
 
 -- the two names of options differ
 plain_is_no_pitch : codes "--plain" ≡ codes "--pitch" → ⊥
@@ -64,7 +66,7 @@ one_options_at (plain_first word rest g is own) (pitch_first word' digits rest' 
 one_options_at (pitch_first word digits rest p a is of own) (plain_first word' rest' h too other) = absurd (plain_is_no_pitch (sym too ∙ is))
 one_options_at (pitch_first word digits rest p a is of own) (pitch_first word' digits' rest' q b too of_too other) =
     let rests = one_options_at own other in
-    let same = one_pitch digits a b of of_too in (rests.0, ap (λ (n : ℕ). Some n) same)
+    let same = one_number MOST_PITCH digits a b (omega arith) of of_too in (rests.0, ap (λ (n : ℕ). Some n) same)
 
 pub one_options : (words : List (List ℕ)) (p q : Bool) (g h : Option ℕ) → AreOptions words p g → AreOptions words q h → (p ≡ q) × (g ≡ h)
 one_options words p q g h first second = one_options_at first second
@@ -75,7 +77,7 @@ after_plain is (plain_first word rest given same own) = own
 after_plain is (pitch_first word digits rest plain pitch same of own) = absurd (plain_is_no_pitch (sym is ∙ same))
 
 after_pitch : {word digits : List ℕ} {rest : List (List ℕ)} {p : Bool} {g : Option ℕ} → word ≡ codes "--pitch" → AreOptions (word ∷ digits ∷ rest) p g →
-    AreOptions rest p None × ((n : ℕ) × IsPitch digits n)
+    AreOptions rest p None × ((n : ℕ) × IsNumberTo MOST_PITCH digits n)
 after_pitch is (plain_first word rest given same own) = absurd (plain_is_no_pitch (sym same ∙ is))
 after_pitch is (pitch_first word digits rest plain pitch same of own) = (own, (pitch, of))
 
@@ -118,7 +120,7 @@ module _ (words : List (List ℕ)) where
       let both = sym (one_options words plain p given None are (after_pitch refl more).0).1 ∙ is in absurd cc
 
   pub with_number : (digits : List ℕ) (plain : Bool) (given pitch : Option ℕ) (result : Option Options) → given ≡ None →
-      IfSome pitch (IsPitch digits) → IfNone pitch ((n : ℕ) → IsPitch digits n → ⊥) →
+      IfSome pitch (IsNumberTo MOST_PITCH digits) → IfNone pitch ((n : ℕ) → IsNumberTo MOST_PITCH digits n → ⊥) →
       MatchOption pitch (result ≡ None) (λ n. result ≡ Some (record { plain = plain; pitch = Some n })) →
       AreOptions words plain given → AreFound (codes "--pitch" ∷ digits ∷ words) result
   with_number digits plain given None result none some unsaid is are =
@@ -127,13 +129,6 @@ module _ (words : List (List ℕ)) where
   with_number digits plain given (Some n) result none some unsaid is are =
       subst (AreFound (codes "--pitch" ∷ digits ∷ words)) (sym is)
       (pitch_first (codes "--pitch") digits words plain n refl some (subst (λ (g : Option ℕ). AreOptions words plain g) none are))
-
-  -- the pitch that is asked for
-  pub not_plain : (rest : Option Options) (options : Options) → rest ≡ Some options → options.plain ≡ false → AreFound words rest → IsAskedFor words None
-  not_plain rest options is none are pitch (given, plain, same) =
-      let own : AreOptions words options.plain options.pitch = subst (AreFound words) is are in
-      let both = (one_options words options.plain true options.pitch given own plain).0 in
-      both_ways options.plain none both
 
 -- the texts of words that begin with one text or with two
 pub empty_texts : (words : List (String Global)) → length words < 1 → AreOptions (texts_of words) false None
@@ -175,60 +170,100 @@ other_word (x ∷ xs) a some is no_plain no_pitch = λ p g are.
     no_name (λ same. no_plain (ap string_bytes is ∙ same)) (λ same. no_pitch (ap string_bytes is ∙ same)) are
 
 -- more words than options can be
-pub too_many : (words : List (String Global)) → 3 < length words → IsAskedFor (texts_of words) None
-too_many words many pitch (given, plain, same) =
-    let few = few_options (texts_of words) true given plain in
+pub too_many : (words : List (String Global)) → 3 < length words → AreFound (texts_of words) None
+too_many words many plain given are =
+    let few = few_options (texts_of words) plain given are in
     let is = length-map words string_bytes in
     omega (arith, many, few, is)
 
 -- digits and their number
-pub not_parsed : {E : Type 0} (digits : List ℕ) (r : Result ℕ E) → ParsesUnsigned 32 10 digits r → (pitch : ℕ) → IsPitch digits pitch → r ≡ Ok pitch
-not_parsed digits r parses pitch is =
-    let most = is.most in
-    parse-decimal 32 pitch digits r (omega (arith, most)) (omega (arith, most)) is.digits parses
+module _ {E : Type 0} (greatest : ℕ) (few : greatest < 2 ^ 32) (digits : List ℕ) (r : Result ℕ E) (parses : ParsesUnsigned 32 10 digits r) where
+  not_parsed : (number : ℕ) → IsNumberTo greatest digits number → r ≡ Ok number
+  not_parsed number is =
+      let most = is.most in
+      parse-decimal 32 number digits r (omega (arith, most, few)) (omega (arith, most, few)) is.digits parses
 
-same_number : {E : Type 0} (digits : List ℕ) (r : Result ℕ E) (found : ℕ) → r ≡ Ok found → ParsesUnsigned 32 10 digits r →
-    (pitch : ℕ) → IsPitch digits pitch → found ≡ pitch
-same_number digits r found is parses pitch of = let both = sym is ∙ not_parsed digits r parses pitch of in cc
+  same_number : (found : ℕ) → r ≡ Ok found → (number : ℕ) → IsNumberTo greatest digits number → found ≡ number
+  same_number found is number of = let both = sym is ∙ not_parsed number of in cc
 
-pub not_written : {E : Type 0} (digits : List ℕ) (r : Result ℕ E) (found : ℕ) (test : Bool) → r ≡ Ok found → ParsesUnsigned 32 10 digits r →
-    test ≡ false → IsTrue test ↔ (digits ≡ decimal found) → (pitch : ℕ) → IsPitch digits pitch → ⊥
-not_written digits r found test is parses fails means pitch of =
-    both_ways test fails (means.1 (of.digits ∙ ap decimal (sym (same_number digits r found is parses pitch of))))
+  pub not_written : (found : ℕ) (test : Bool) → r ≡ Ok found → test ≡ false → IsTrue test ↔ (digits ≡ decimal found) →
+      (number : ℕ) → IsNumberTo greatest digits number → ⊥
+  not_written found test is fails means number of =
+      both_ways test fails (means.1 (of.digits ∙ ap decimal (sym (same_number found is number of))))
 
-pub not_a_pitch : {E : Type 0} (digits : List ℕ) (r : Result ℕ E) (found : ℕ) (test : Bool) → r ≡ Ok found → ParsesUnsigned 32 10 digits r →
-    test ≡ false → IsTrue test ↔ ((1 ≤ found) × (found ≤ MOST_PITCH)) → (pitch : ℕ) → IsPitch digits pitch → ⊥
-not_a_pitch digits r found test is parses fails means pitch of =
-    both_ways test fails (means.1 (subst (λ (n : ℕ). (1 ≤ n) × (n ≤ MOST_PITCH)) (sym (same_number digits r found is parses pitch of)) (of.some, of.most)))
+  pub not_among : (found : ℕ) (test : Bool) → r ≡ Ok found → test ≡ false → IsTrue test ↔ ((1 ≤ found) × (found ≤ greatest)) →
+      (number : ℕ) → IsNumberTo greatest digits number → ⊥
+  not_among found test is fails means number of =
+      both_ways test fails (means.1 (subst (λ (n : ℕ). (1 ≤ n) × (n ≤ greatest)) (sym (same_number found is number of)) (of.some, of.most)))
 
-pub no_numeral : {E : Type 0} (digits : List ℕ) (r : Result ℕ E) (error : E) → r ≡ Err error → ParsesUnsigned 32 10 digits r →
-    (pitch : ℕ) → IsPitch digits pitch → ⊥
-no_numeral digits r error is parses pitch of = let both = sym is ∙ not_parsed digits r parses pitch of in cc
+  pub no_numeral : (error : E) → r ≡ Err error → (number : ℕ) → IsNumberTo greatest digits number → ⊥
+  no_numeral error is number of = let both = sym is ∙ not_parsed number of in cc
 
 -- commands by their first word
 pub as_drawing : (command : List ℕ) (options : List (List ℕ)) (result : Option Command) → command ≡ codes "draw" →
     IsCommand (codes "draw" ∷ options) result → IsCommand (command ∷ options) result
 as_drawing command options result is asked = subst (λ (w : List ℕ). IsCommand (w ∷ options) result) (sym is) asked
 
-pub drawing_or_none : (options : List (List ℕ)) (pitch : Option ℕ) → pitch ≡ None → IsAskedFor options pitch → IsCommand (codes "draw" ∷ options) None
-drawing_or_none options None is none (commands.Draw pitch) (others, same, asked) =
-    let equal : others ≡ options = cc in none pitch (subst (λ (o : List (List ℕ)). AskForPlain o pitch) equal asked)
-drawing_or_none options None is none commands.Check same = cc
-drawing_or_none options None is none commands.Measure same = cc
-drawing_or_none options (Some n) is none command asked = cc
+pub no_drawing : (options : List (List ℕ)) → AreFound options None → IsCommand (codes "draw" ∷ options) None
+no_drawing options none (commands.Draw pitch certified) (others, same, (plain, given, are, of, is)) =
+    let equal : others ≡ options = cc in none plain given (subst (λ (o : List (List ℕ)). AreOptions o plain given) equal are)
+no_drawing options none commands.Check same = cc
+no_drawing options none commands.Measure same = cc
+no_drawing options none commands.Verify same = cc
+no_drawing options none (commands.Sample number) (digits, same, of) = cc
 
-pub no_command : (command : List ℕ) (options : List (List ℕ)) → (command ≡ codes "draw" → ⊥) → 0 < length options → IsCommand (command ∷ options) None
-no_command command options no_draw some (commands.Draw pitch) (others, same, asked) = no_draw cc
-no_command command options no_draw some commands.Check same = let none : options ≡ [] = cc in let long : length options ≡ 0 = ap length none in omega (arith, some, long)
-no_command command options no_draw some commands.Measure same = let none : options ≡ [] = cc in let long : length options ≡ 0 = ap length none in omega (arith, some, long)
+pub some_drawing : (options : List (List ℕ)) (found : Options) → AreFound options (Some found) →
+    Asks (codes "draw" ∷ options) (commands.Draw (unwrap_or found.pitch 1) (not found.plain))
+some_drawing options found are = (options, refl, (found.plain, found.pitch, are, refl, refl))
 
-pub no_such_command : (command : List ℕ) → (command ≡ codes "check" → ⊥) → (command ≡ codes "measure" → ⊥) → IsCommand (command ∷ []) None
-no_such_command command no_check no_measure (commands.Draw pitch) (others, same, (given, are, is)) =
-    let none : others ≡ [] = cc in
-    let own : AreOptions [] true given = subst (λ (o : List (List ℕ)). AreOptions o true given) none are in
-    let both = (one_options [] true false given None own no_option).0 in cc
-no_such_command command no_check no_measure commands.Check same = no_check cc
-no_such_command command no_check no_measure commands.Measure same = no_measure cc
+not_lone : (command word : List ℕ) (options : List (List ℕ)) → 0 < length options → command ∷ options ≡ word ∷ [] → ⊥
+not_lone command word options some same = let none : options ≡ [] = cc in let long : length options ≡ 0 = ap length none in omega (arith, some, long)
+
+pub no_command : (command : List ℕ) (options : List (List ℕ)) → (command ≡ codes "draw" → ⊥) → (command ≡ codes "sample" → ⊥) → 0 < length options →
+    IsCommand (command ∷ options) None
+no_command command options no_draw no_sample some (commands.Draw pitch certified) (others, same, asked) = no_draw cc
+no_command command options no_draw no_sample some commands.Check same = not_lone command (codes "check") options some same
+no_command command options no_draw no_sample some commands.Measure same = not_lone command (codes "measure") options some same
+no_command command options no_draw no_sample some commands.Verify same = not_lone command (codes "verify") options some same
+no_command command options no_draw no_sample some (commands.Sample number) (digits, same, of) = no_sample cc
+
+pub no_such_command : (command : List ℕ) → (command ≡ codes "draw" → ⊥) → (command ≡ codes "check" → ⊥) → (command ≡ codes "measure" → ⊥) →
+    (command ≡ codes "verify" → ⊥) → IsCommand (command ∷ []) None
+no_such_command command no_draw no_check no_measure no_verify (commands.Draw pitch certified) (others, same, asked) = no_draw cc
+no_such_command command no_draw no_check no_measure no_verify commands.Check same = no_check cc
+no_such_command command no_draw no_check no_measure no_verify commands.Measure same = no_measure cc
+no_such_command command no_draw no_check no_measure no_verify commands.Verify same = no_verify cc
+no_such_command command no_draw no_check no_measure no_verify (commands.Sample number) (digits, same, of) = cc
+
+-- a sample, by its number
+pub as_sample : (command : List ℕ) (options : List (List ℕ)) (result : Option Command) → command ≡ codes "sample" →
+    IsCommand (codes "sample" ∷ options) result → IsCommand (command ∷ options) result
+as_sample command options result is asked = subst (λ (w : List ℕ). IsCommand (w ∷ options) result) (sym is) asked
+
+pub no_sample_of : (digits : List ℕ) → ((n : ℕ) → IsNumberTo MOST_SAMPLE digits n → ⊥) → IsCommand (codes "sample" ∷ digits ∷ []) None
+no_sample_of digits none (commands.Draw pitch certified) (others, same, asked) = cc
+no_sample_of digits none commands.Check same = cc
+no_sample_of digits none commands.Measure same = cc
+no_sample_of digits none commands.Verify same = cc
+no_sample_of digits none (commands.Sample number) (other, same, of) =
+    let equal : other ≡ digits = cc in none number (subst (λ (d : List ℕ). IsNumberTo MOST_SAMPLE d number) equal of)
+
+first_of : (a b : List ℕ) (x y : List (List ℕ)) → a ∷ x ≡ b ∷ y → a ≡ b
+first_of a b x y same = cc
+
+sample_is_no_verify : codes "sample" ≡ codes "verify" → ⊥
+sample_is_no_verify both = let at : 115 ≡ 118 = ap (λ (word : List ℕ). get_or word 0 0) both in omega (arith, at)
+
+not_one_text : (words : List (List ℕ)) → (length words ≡ 1 → ⊥) → IsCommand (codes "sample" ∷ words) None
+not_one_text words many (commands.Draw pitch certified) (others, same, asked) = cc
+not_one_text words many commands.Check same = cc
+not_one_text words many commands.Measure same = cc
+not_one_text words many commands.Verify same = sample_is_no_verify (first_of (codes "sample") (codes "verify") words [] same)
+not_one_text words many (commands.Sample number) (digits, same, of) =
+    let one : words ≡ digits ∷ [] = cc in many (ap length one)
+
+pub not_one_word : (words : List (String Global)) → (length words ≡ 1 → ⊥) → IsCommand (codes "sample" ∷ texts_of words) None
+not_one_word words many = not_one_text (texts_of words) (λ one. many (sym (length-map words string_bytes) ∙ one))
 
 -- a command or none, by two clauses
 pub some_found : (words : List (List ℕ)) (result : Option Command) → IsCommand words result → IfSome result (Asks words)
@@ -254,12 +289,15 @@ within no_option = (omega arith, omega arith)
 within (plain_first word rest given is own) = within own
 within (pitch_first word digits rest plain pitch is of own) = (of.some, of.most)
 
-pub pitch_asked : (words : List (List ℕ)) (command : Command) → Asks words command → HasPitch command
-pitch_asked words (commands.Draw pitch) (options, is, (given, are, same)) =
-    subst (λ (n : ℕ). (1 ≤ n) × (n ≤ MOST_PITCH)) (sym same) (within are)
-pitch_asked words commands.Check is = tt
-pitch_asked words commands.Measure is = tt
+pub number_asked : (words : List (List ℕ)) (command : Command) → Asks words command → IsWithinLimits command
+number_asked words (commands.Draw pitch certified) (options, is, (plain, given, are, of, same)) =
+    subst (λ (n : ℕ). (1 ≤ n) × (n ≤ MOST_PITCH)) (sym of) (within are)
+number_asked words commands.Check is = tt
+number_asked words commands.Measure is = tt
+number_asked words commands.Verify is = tt
+number_asked words (commands.Sample number) (digits, is, of) = (of.some, of.most)
 
-pub one_plain_pitch : (options : List (List ℕ)) (p q : ℕ) → AskForPlain options p → AskForPlain options q → p ≡ q
-one_plain_pitch options p q (g, are, is) (h, too, same) =
-    is ∙ ap (λ (given : Option ℕ). unwrap_or given 1) (one_options options true true g h are too).1 ∙ sym same
+pub one_drawing : (options : List (List ℕ)) (p q : ℕ) (a b : Bool) → AskForDrawing options p a → AskForDrawing options q b → (p ≡ q) × (a ≡ b)
+one_drawing options p q a b (c, g, are, of, is) (d, h, too, of_too, is_too) =
+    let same = one_options options c d g h are too in
+    (of ∙ ap (λ (given : Option ℕ). unwrap_or given 1) same.1 ∙ sym of_too, is ∙ ap not same.0 ∙ sym is_too)

@@ -3,6 +3,7 @@ pub mod Intakes
 pub mod Statuses
 pub mod Drawings
 pub mod Summaries
+pub mod Samples
 pub mod Outputs
 pub mod Runs
 pub mod Notes

@@ -19,12 +19,23 @@ use Rattle.drawing_read.specs.declared.fault.DrawFault.TheVariants.{TooManyPiece
 use Rattle.drawing_check.specs.declared.fault.ShapeFault.{ShapeFault}
 use Rattle.drawing_check.specs.declared.fault.ShapeFault.TheVariants.{ZeroPiece, Slanted}
 use Rattle.drawing_check.specs.declared.fault.ShapeFault.TheVariants.{Disconnected, Meeting}
+use Rattle.cert_text.specs.declared.fault.CertFault.{CertFault}
+use Rattle.cert_text.specs.declared.fault.CertKind.{CertKind}
+use Rattle.cert_text.specs.declared.fault.CertKind.TheVariants.{NoCertificate, BadLine}
+use Rattle.cert_text.specs.declared.fault.CertKind.TheVariants.{MissingBranch, TrailingLine}
+use Rattle.cert_text.specs.Texts.{axis_text}
+use Rattle.cert_check.specs.declared.fault.CheckFault.{CheckFault}
+use Rattle.cert_check.specs.declared.fault.CheckFault.TheVariants.{NotFromZero, BadPair, Unbalanced}
+use Rattle.cert_check.specs.declared.fault.CheckFault.TheVariants.{WeakBound, NotACycle, NoArc}
 use Rattle.compact_main.specs.declared.command.Command.{Command}
 use Rattle.compact_main.specs.declared.status.Why.{Why}
 use Rattle.compact_main.specs.declared.status.Why.TheVariants.{TooLong, Gml, Draw, Shape as Figure}
+use Rattle.compact_main.specs.declared.status.Unproved.{Unproved}
+use Rattle.compact_main.specs.declared.status.Unproved.TheVariants.{Cert, NotWhole, Check}
 use Rattle.compact_main.specs.declared.status.Status.{Status}
 use Rattle.compact_main.specs.declared.status.Status.TheVariants.{Done, Refused, BadWords}
 use Rattle.compact_main.specs.declared.status.Status.TheVariants.{ReadFault, WriteFault, NoMemory}
+use Rattle.compact_main.specs.declared.status.Status.TheVariants.{NotProved}
 use Rattle.compact_main.specs.Intakes.{limit_of}
 
 -- what is wrong with a text that is no GML
@@ -85,6 +96,38 @@ why_text limit (Gml fault) = kind_text fault.kind ++ codes " at byte " ++ decima
 why_text limit (Draw fault) = draw_text fault
 why_text limit (Figure fault) = shape_text fault
 
+-- what is wrong with the line of a certificate
+abbrev pub cert_kind_text : ℕ → CertKind → List ℕ
+cert_kind_text line NoCertificate = codes "no certificate"
+cert_kind_text line BadLine = around (codes "line ") line (codes " is bad")
+cert_kind_text line MissingBranch = around (codes "line ") line (codes " lacks a branch")
+cert_kind_text line TrailingLine = around (codes "line ") line (codes " is too many")
+
+abbrev pub cert_text : CertFault → List ℕ
+cert_text fault = cert_kind_text fault.line fault.kind
+
+-- an entry of a certificate, and what is wrong with it
+abbrev pub entry_text : ℕ → List ℕ → List ℕ
+entry_text entry wrong = around (codes "entry ") entry wrong
+
+-- why a certificate does not show that its drawing is the best
+abbrev pub check_text : CheckFault → List ℕ
+check_text NotFromZero = codes "not from zero"
+check_text (BadPair entry) = entry_text entry (codes " names a bad pair")
+check_text (Unbalanced entry axis node) =
+    entry_text entry (codes " is not balanced at ") ++ axis_text axis ++ codes " node "
+    ++ decimal node
+check_text (WeakBound entry bound earlier) = entry_text entry (codes " has too weak a bound")
+check_text (NotACycle entry place) = entry_text entry (codes " is not a cycle")
+check_text (NoArc entry axis arc) =
+    entry_text entry (codes " has no arc ") ++ decimal arc ++ codes " in " ++ axis_text axis
+
+-- why a text is not proved
+abbrev pub unproved_text : Unproved → List ℕ
+unproved_text (Cert fault) = cert_text fault
+unproved_text (NotWhole vertex) = around (codes "vertex ") vertex (codes " is not on the grid")
+unproved_text (Check fault) = check_text fault
+
 -- the line without its line feed
 abbrev pub status_text : ℕ → Status → List ℕ
 status_text limit Done = []
@@ -94,6 +137,7 @@ status_text limit BadWords =
 status_text limit ReadFault = codes "read fault"
 status_text limit WriteFault = codes "write fault"
 status_text limit NoMemory = codes "no memory"
+status_text limit (NotProved unproved) = codes "not proved: " ++ unproved_text unproved
 
 -- the line for a status that is not Done, of a command that reads no more than the limit
 abbrev pub note_text : ℕ → Status → List ℕ

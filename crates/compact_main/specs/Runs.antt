@@ -5,11 +5,15 @@ use Rattle.std.specs.Io.KnownBytes.{Appends}
 use Rattle.io_ends.specs.Counts.{Rose, Counted, Uncounted}
 use Rattle.io_ends.specs.Ends.{AppendsFront}
 use Rattle.compact_main.specs.declared.command.Command.{Command}
+use Rattle.compact_main.specs.declared.status.Failure.{Failure}
+use Rattle.compact_main.specs.declared.status.Failure.TheVariants as failures
+use Rattle.compact_main.specs.declared.status.Unproved.{Unproved}
 use Rattle.compact_main.specs.declared.status.Why.{Why}
 use Rattle.compact_main.specs.declared.status.Why.TheVariants.{TooLong}
 use Rattle.compact_main.specs.declared.status.Status.{Status}
 use Rattle.compact_main.specs.declared.status.Status.TheVariants.{Done, Refused, BadWords}
 use Rattle.compact_main.specs.declared.status.Status.TheVariants.{ReadFault, WriteFault, NoMemory}
+use Rattle.compact_main.specs.declared.status.Status.TheVariants.{NotProved}
 use Rattle.compact_main.specs.Intakes.{intake_of, limit_of, Takes, IsReadOut, MayFailAfter, IsGiven}
 use Rattle.compact_main.specs.Outputs.{Output, IsValid, FirstFault}
 
@@ -39,14 +43,15 @@ pub record IsBrokenOff {S : Type 0} (Asked : Command → Type 0) (left : S → O
 
 -- a command was asked for, and the text that was read has this first fault; it was read to its end,
 -- unless it is too long
-pub record IsRefused {S : Type 0} (Asked : Command → Type 0) (why : Why)
+pub record IsFailed {S : Type 0} (Asked : Command → Type 0) (failure : Failure)
     (left : S → Option (List ℕ)) (source source' : S) : Type 0 where
   pub command : Command
   pub text : List ℕ
   pub asked : Asked command
   pub read : Takes (intake_of command) left source source' text
-  pub to_the_end : (why ≡ TooLong → ⊥) → IsReadOut (intake_of command) left source'
-  pub fault : FirstFault command text why
+  pub to_the_end : (failure ≡ failures.Refused TooLong → ⊥) →
+      IsReadOut (intake_of command) left source'
+  pub fault : FirstFault command text failure
 
 -- a command was asked for, and a read failed after no more bytes than it reads
 pub record IsReadFault {S : Type 0} (Asked : Command → Type 0) (left : S → Option (List ℕ))
@@ -66,12 +71,14 @@ pub record IsStopped {S : Type 0} (Asked : Command → Type 0) (left : S → Opt
   pub read : Takes (intake_of command) left source source' given
   pub within : length given ≤ limit_of command
 
--- a text that the command accepts is answered and any other is refused with its first fault, unless
--- memory is refused
+-- a text that the command accepts is answered, and any other is refused or not proved with its
+-- first fault, unless memory is refused
 pub record Completes (command : Command) (text : List ℕ) (status : Status) : Type 0 where
   pub done : IsValid command text → (status ≡ Done) ⊎ (status ≡ NoMemory)
-  pub refused : (why : Why) → FirstFault command text why →
+  pub refused : (why : Why) → FirstFault command text (failures.Refused why) →
       (status ≡ Refused why) ⊎ (status ≡ NoMemory)
+  pub not_proved : (unproved : Unproved) → FirstFault command text (failures.NotProved unproved) →
+      (status ≡ NotProved unproved) ⊎ (status ≡ NoMemory)
 
 -- the run of a program that is asked for these commands, mostly for one or for none
 pub record IsRun {S K : Type 0} (Asked : Command → Type 0)
@@ -85,7 +92,10 @@ pub record IsRun {S K : Type 0} (Asked : Command → Type 0)
   pub done : status ≡ Done → IsDone Asked left source source' (held out) (held out')
   pub write_fault : status ≡ WriteFault →
       IsBrokenOff Asked left source source' (held out) (held out')
-  pub refused : (why : Why) → status ≡ Refused why → IsRefused Asked why left source source'
+  pub refused : (why : Why) → status ≡ Refused why →
+      IsFailed Asked (failures.Refused why) left source source'
+  pub not_proved : (unproved : Unproved) → status ≡ NotProved unproved →
+      IsFailed Asked (failures.NotProved unproved) left source source'
   pub read_fault : status ≡ ReadFault → IsReadFault Asked left source source'
   pub no_memory : status ≡ NoMemory → IsStopped Asked left source source'
   pub nothing_written : (status ≡ Done → ⊥) → (status ≡ WriteFault → ⊥) → out' ≡ out

@@ -2,3 +2,5 @@ pub mod Askings
 pub mod Rooms
 pub mod PairCounts
 pub mod Writes
+pub mod Proofs
+pub mod Readings

@@ -2,17 +2,20 @@
 
 ghost use Rattle.std.specs.Prelude.{◌≡◌, ◌↔◌, ℕ, ◌<◌, ◌≤◌, [], ◌∷◌, List, length, codes, decimal};
 ghost use Rattle.std.specs.Prelude.{None, Some, IsTrue, IfSome, IfNone, MatchOption};
-ghost use Rattle.gml_print.specs.declared.limits.TheConstants.{MOST_PITCH};
 ghost use Rattle.compact_main.specs.declared.command.Command.{Command};
 ghost use Rattle.compact_main.specs.declared.command.TheConstants.{MOST_OPTION_WORDS};
-ghost use Rattle.compact_main.specs.Commands.{texts_of, IsPitch, AreOptions, Asks};
-ghost use Rattle.compact_main.specs.Intakes.{limit_of};
-ghost use Rattle.compact_main.specs.inner.Askings.{AreFound, IsAskedFor, IsCommand};
+ghost use Rattle.compact_main.specs.Commands.{texts_of, IsNumberTo, AreOptions, Asks};
+ghost use Rattle.compact_main.specs.Intakes.{intake_of, limit_of};
+ghost use Rattle.compact_main.specs.inner.Readings.{IsTextLimit};
+ghost use Rattle.compact_main.specs.inner.Askings.{AreFound, IsCommand};
 
+use crate::sample::MOST_SAMPLE;
 use gml_print::MOST_PITCH;
+use gml_text::MOST_BYTES;
 use itoa::Buffer;
 
-/// The most bytes of a text that is drawn, checked or measured: 4 MiB.
+/// The most bytes of a text that is drawn, checked or measured: 4 MiB. A text that is verified may
+/// have as many as a GML text, 64 MiB.
 pub const MOST_INPUT_BYTES: usize = 4_194_304;
 
 /// The most words that the options of a drawing are: `--plain`, `--pitch` and its number.
@@ -21,14 +24,19 @@ const MOST_OPTION_WORDS: usize = 3;
 /// What the program is asked to do.
 #[derive(Clone, Copy, Debug, PartialEq, Eq)]
 pub enum Command {
-    /// `draw --plain`: the shortest drawing of the text's shape, without a certificate, with
-    /// `pitch` units between neighbouring lines of the grid.
-    Draw { pitch: u32 },
+    /// `draw`: the shortest drawing of the text's shape, with `pitch` units between neighbouring
+    /// lines of the grid; and behind it its certificate, unless `--plain` is given.
+    Draw { pitch: u32, certified: bool },
     /// `check`: whether the text holds a drawing, and how many vertices and pieces it has.
     Check,
     /// `measure`: how large the text's drawing is, and how many pairs of its segments its shape
     /// alone keeps apart.
     Measure,
+    /// `verify`: whether the text's certificate shows that its drawing is the shortest of its
+    /// shape.
+    Verify,
+    /// `sample N`: how large the best drawing of the sample with `number` arms is.
+    Sample { number: u32 },
 }
 
 /// The options of a drawing.
@@ -54,7 +62,10 @@ fn command_with(command: &str, options: &[String]) -> Option<Command>
     ensures { IsCommand (command.now ∷ texts_of options.now) result }
 {
     if is_text(command, "draw") {
-        return plain_drawing(plain_pitch(options));
+        return drawing(options);
+    }
+    if is_text(command, "sample") {
+        return sample(options);
     }
     if has_words(options) {
         return None;
@@ -62,9 +73,10 @@ fn command_with(command: &str, options: &[String]) -> Option<Command>
     lone_command(command)
 }
 
-/// The command that is one word.
+/// The command that is one word, and is not `draw`.
 #[tactic(auto, using(crate::proofs::WordLists::no_such_command))]
 fn lone_command(command: &str) -> Option<Command>
+    requires { command.now ≡ codes "draw" → ⊥ }
     ensures { IsCommand (command.now ∷ []) result }
 {
     if is_text(command, "check") {
@@ -73,37 +85,53 @@ fn lone_command(command: &str) -> Option<Command>
     if is_text(command, "measure") {
         return Some(Command::Measure);
     }
+    if is_text(command, "verify") {
+        return Some(Command::Verify);
+    }
     None
 }
 
-/// The command to draw at this pitch.
-fn plain_drawing(pitch: Option<u32>) -> Option<Command>
-    ensures { (options : List (List ℕ)) →
-        IsAskedFor options pitch → IsCommand (codes "draw" ∷ options) result }
-{
-    match pitch {
-        Some(pitch) => Some(Command::Draw { pitch }),
-        None => None,
-    }
-}
-
-/// The pitch of the plain drawing that the options ask for.
-fn plain_pitch(options: &[String]) -> Option<u32>
-    ensures { IsAskedFor (texts_of options.now) result }
+/// The command to draw with these options.
+fn drawing(options: &[String]) -> Option<Command>
+    ensures { IsCommand (codes "draw" ∷ texts_of options.now) result }
 {
     if has_too_many(options) {
         return None;
     }
-    pitch_where_plain(options_of(options))
+    drawing_with(options_of(options))
 }
 
-/// The pitch of options that ask for a plain drawing: 1 where none is given.
-fn pitch_where_plain(options: Option<Options>) -> Option<u32>
-    ensures { (words : List (List ℕ)) → AreFound words options → IsAskedFor words result }
+/// The command to draw with the options that were found: the pitch is 1 where none is given.
+fn drawing_with(options: Option<Options>) -> Option<Command>
+    ensures { (words : List (List ℕ)) →
+        AreFound words options → IsCommand (codes "draw" ∷ words) result }
 {
     match options {
-        Some(options) if options.plain => Some(options.pitch.unwrap_or(1)),
+        Some(options) => Some(Command::Draw {
+            pitch: options.pitch.unwrap_or(1),
+            certified: !options.plain,
+        }),
+        None => None,
+    }
+}
+
+/// The command to make the sample of the number that the options are.
+fn sample(options: &[String]) -> Option<Command>
+    ensures { IsCommand (codes "sample" ∷ texts_of options.now) result }
+{
+    match options {
+        [digits] => sample_of(digits.as_str()),
         _ => None,
+    }
+}
+
+/// The command to make the sample of the number that the digits say.
+fn sample_of(digits: &str) -> Option<Command>
+    ensures { IsCommand (codes "sample" ∷ digits.now ∷ []) result }
+{
+    match number_of(digits, MOST_SAMPLE) {
+        Some(number) => Some(Command::Sample { number }),
+        None => None,
     }
 }
 
@@ -158,7 +186,7 @@ fn pitch_first(digits: &str, plain: bool, given: Option<u32>) -> Option<Options>
 {
     match given {
         Some(_) => None,
-        None => with_pitch(plain, pitch_of(digits)),
+        None => with_pitch(plain, number_of(digits, MOST_PITCH)),
     }
 }
 
@@ -173,22 +201,22 @@ fn with_pitch(plain: bool, pitch: Option<u32>) -> Option<Options>
     }
 }
 
-/// The pitch that the digits say.
-fn pitch_of(digits: &str) -> Option<u32>
-    ensures some { IfSome result (IsPitch digits.now) }
-    ensures none { IfNone result ((pitch : ℕ) → IsPitch digits.now pitch → ⊥) }
+/// The number from 1 to `greatest` that the digits say.
+fn number_of(digits: &str, greatest: u32) -> Option<u32>
+    ensures some { IfSome result (IsNumberTo greatest digits.now) }
+    ensures none { IfNone result ((n : ℕ) → IsNumberTo greatest digits.now n → ⊥) }
 {
     match digits.parse::<u32>() {
-        Ok(pitch) if is_pitch(pitch) && is_written(digits, pitch) => Some(pitch),
+        Ok(number) if is_among(number, greatest) && is_written(digits, number) => Some(number),
         _ => None,
     }
 }
 
-/// Whether a drawing may have this pitch.
-fn is_pitch(pitch: u32) -> bool
-    ensures { IsTrue result ↔ ((1 ≤ pitch) × (pitch ≤ MOST_PITCH)) }
+/// Whether the number is from 1 to `greatest`.
+fn is_among(number: u32, greatest: u32) -> bool
+    ensures { IsTrue result ↔ ((1 ≤ number) × (number ≤ greatest)) }
 {
-    1 <= pitch && pitch <= MOST_PITCH
+    1 <= number && number <= greatest
 }
 
 /// Whether the digits are those of the number, with no sign and no zero before them.
@@ -221,12 +249,22 @@ fn has_too_many(words: &[String]) -> bool
 }
 
 impl Command {
+    /// How many bytes of a text the command reads at most; `None` where it reads no text.
+    pub(crate) fn text_limit(self) -> Option<usize>
+        ensures { IsTextLimit (intake_of self) result }
+    {
+        match self {
+            Command::Draw { .. } | Command::Check | Command::Measure => Some(MOST_INPUT_BYTES),
+            Command::Verify => Some(MOST_BYTES),
+            Command::Sample { .. } => None,
+        }
+    }
+
     /// How many bytes the command reads at most.
+    #[tactic(auto, using(crate::proofs::TextLimits::most_is))]
     pub(crate) fn limit(self) -> usize
         ensures { result ≡ limit_of self }
     {
-        match self {
-            Command::Draw { .. } | Command::Check | Command::Measure => MOST_INPUT_BYTES,
-        }
+        self.text_limit().unwrap_or(0)
     }
 }

@@ -1,11 +1,15 @@
 //! The drawing that a text holds.
 
-ghost use Rattle.std.specs.Prelude.{◌≤◌, length};
-ghost use Rattle.compact_types.specs.Refusals.{Decides};
+ghost use Rattle.std.specs.Prelude.{◌≤◌, length, IfOk};
+ghost use Rattle.compact_types.specs.Refusals.{Decides, IfFault};
 ghost use Rattle.gml_text.specs.declared.limits.TheConstants.{MOST_BYTES};
 ghost use Rattle.compact_main.specs.Drawings.{HoldsDrawing, FirstTextFault};
+ghost use Rattle.compact_main.specs.Intakes.{intake_of, limit_of};
+ghost use Rattle.compact_main.specs.Outputs.{IsInput, FirstFault};
+ghost use Rattle.compact_main.specs.inner.Readings.{IsText};
 
-use crate::status::Why;
+use crate::command::Command;
+use crate::status::{Failure, Why};
 use compact_types::{Refusal, Shape};
 use drawing_check::check;
 use drawing_read::{Reading, read_drawing};
@@ -20,9 +24,26 @@ pub struct Drawing {
     pub shape: Shape,
 }
 
+/// The drawing that a command is given, or why it refuses the text.
+pub(crate) fn input_of(
+    alloc: Global,
+    command: Command,
+    bytes: &[u8],
+) -> Result<Drawing, Refusal<Failure>>
+    requires text { IsText (intake_of command) }
+    requires within { length bytes.now ≤ limit_of command }
+    ensures input { IfOk result (IsInput (limit_of command) bytes.now) }
+    ensures fault { IfFault result (FirstFault command bytes.now) }
+{
+    match drawing_of(alloc, bytes) {
+        Ok(drawing) => Ok(drawing),
+        Err(refusal) => Err(refusal.map(Failure::Refused)),
+    }
+}
+
 /// The drawing that the text holds, or the first fault of a text that holds none.
 #[tactic(auto, using(drawing_read::proofs::Laws::readable_legible))]
-pub(crate) fn drawing_of(alloc: Global, bytes: &[u8]) -> Result<Drawing, Refusal<Why>>
+fn drawing_of(alloc: Global, bytes: &[u8]) -> Result<Drawing, Refusal<Why>>
     requires { length bytes.now ≤ MOST_BYTES }
     ensures { Decides result (HoldsDrawing bytes.now) (FirstTextFault bytes.now) }
 {

@@ -1,16 +1,23 @@
 //! What holds of every text, whether the program was run or not. The bodies are empty: each
 //! contract is a law.
 
-ghost use Rattle.std.specs.Prelude.{◌≡◌, ◌↔◌, ℕ, Bool, true, List};
+ghost use Rattle.std.specs.Prelude.{◌≡◌, ◌≤◌, ◌↔◌, ℕ, Bool, false, true, List, length};
+ghost use Rattle.compact_types.specs.declared.places.Places.{Places};
 ghost use Rattle.compact_types.specs.declared.plan.Shape.{Shape};
+ghost use Rattle.compact_types.specs.Bests.{IsBest};
+ghost use Rattle.compact_types.specs.Bests.Objective.{total_length};
 ghost use Rattle.compact_types.specs.Refusals.{HasOneAnswer};
+ghost use Rattle.cert_text.specs.declared.tree.CertNode.{CertNode};
 ghost use Rattle.bars.specs.Lines.{count_to};
 ghost use Rattle.bars.specs.Segments.{IsPair};
-ghost use Rattle.compact_main.specs.Commands.{Asks};
+ghost use Rattle.compact_main.specs.Commands.{Asks, IsWithinLimits};
 ghost use Rattle.compact_main.specs.Drawings.{HoldsDrawing, FirstTextFault};
-ghost use Rattle.compact_main.specs.Outputs.{Output, IsValid, FirstFault};
+ghost use Rattle.compact_main.specs.Intakes.{limit_of};
+ghost use Rattle.compact_main.specs.Outputs.{Output, IsProved, IsValid, FirstFault};
+ghost use Rattle.compact_main.specs.Outputs.{IsCertified, IsUncertified};
 ghost use Rattle.compact_main.specs.Summaries.{IsCount, IsPairCount, IsSeparatedPair};
 ghost use Rattle.compact_main.specs.declared.command.Command.{Command};
+ghost use Rattle.compact_main.specs.declared.drawing.Drawing.{Drawing};
 
 /// A law: words ask for one command at most.
 pub fn words_ask_for_one_command()
@@ -22,26 +29,55 @@ pub fn texts_have_one_answer()
     ensures { (text : List ℕ) → HasOneAnswer (HoldsDrawing text) (FirstTextFault text) }
 {}
 
-/// A law: a text that a command accepts has no first fault, and any other has exactly one.
+/// A law: a text that a command accepts has no first fault, and any other has exactly one: it is
+/// refused, or, where it was to be verified, not proved.
 pub fn texts_are_accepted_or_refused()
     ensures { (command : Command) (text : List ℕ) →
         HasOneAnswer (λ (accepted : Unit {0}). IsValid command text) (FirstFault command text) }
 {}
 
-/// A law: the texts that a command accepts are those for which it has an output.
+/// A law: a text for which a command has an output is one that it accepts; and each text that it
+/// accepts has an output, where no certificate is to be written. That a best drawing has a
+/// certificate is shown by the search, which makes one where memory allows.
 pub fn accepted_texts_have_an_output()
-    ensures { (command : Command) (text : List ℕ) →
-        IsValid command text ↔ ((written : List ℕ) × Output command text written) }
+    ensures accepted { (command : Command) (text written : List ℕ) →
+        Output command text written → IsValid command text }
+    ensures output { (command : Command) (text : List ℕ) → IsUncertified command →
+        IsValid command text → (written : List ℕ) × Output command text written }
 {}
 
-/// A law: what each command writes is a function of the text.
+/// A law: what each command writes is a function of the text; of a drawing with its certificate the
+/// drawing is, which is what is written without a certificate.
 pub fn outputs_are_functions_of_the_text()
     ensures drawn { (pitch : ℕ) (text a b : List ℕ) →
-        Output (Command.Draw pitch) text a → Output (Command.Draw pitch) text b → a ≡ b }
+        Output (Command.Draw pitch false) text a → Output (Command.Draw pitch false) text b →
+        a ≡ b }
+    ensures certified { (pitch : ℕ) (text a : List ℕ) → Output (Command.Draw pitch true) text a →
+        (front : List ℕ) × Output (Command.Draw pitch false) text front
+        × ((nodes : List CertNode) × IsCertified pitch front nodes a) }
     ensures counted { (text a b : List ℕ) →
         Output Command.Check text a → Output Command.Check text b → a ≡ b }
     ensures measured { (text a b : List ℕ) →
         Output Command.Measure text a → Output Command.Measure text b → a ≡ b }
+    ensures verified { (text a b : List ℕ) →
+        Output Command.Verify text a → Output Command.Verify text b → a ≡ b }
+    ensures sampled { (number : ℕ) (text a b : List ℕ) →
+        Output (Command.Sample number) text a → Output (Command.Sample number) text b → a ≡ b }
+{}
+
+/// A law: what a drawing with its certificate is written as is proved, where it is no longer than
+/// what is verified.
+pub fn what_draw_writes_is_proved()
+    ensures { (pitch : ℕ) (text written : List ℕ) → IsWithinLimits (Command.Draw pitch true) →
+        Output (Command.Draw pitch true) text written → length written ≤ limit_of Command.Verify →
+        IsValid Command.Verify written }
+{}
+
+/// A law: a drawing that is proved is the best one of its shape. Whoever has the text needs nothing
+/// else to see that.
+pub fn proved_drawings_are_best()
+    ensures { (text : List ℕ) (drawing : Drawing) (places : Places) →
+        IsProved text drawing places → IsBest total_length drawing.shape places }
 {}
 
 /// A law: a count is one number. Of the numbers below n that pass a test it is the one found by

@@ -9,6 +9,7 @@
 
 mod best;
 mod command;
+mod draw;
 mod drawing;
 mod laws;
 mod note;
@@ -17,18 +18,22 @@ mod output;
 mod pairs;
 mod room;
 mod run;
+mod sample;
+mod sampled;
 mod status;
 mod summary;
+mod verify;
 
 pub use command::{Command, MOST_INPUT_BYTES};
 use io_ends::{StdSink, StdSource};
 pub use laws::{
     accepted_texts_have_an_output, counts_are_exact, outputs_are_functions_of_the_text,
-    texts_are_accepted_or_refused, texts_have_one_answer, words_ask_for_one_command,
+    proved_drawings_are_best, texts_are_accepted_or_refused, texts_have_one_answer,
+    what_draw_writes_is_proved, words_ask_for_one_command,
 };
 use notify::notify;
 pub use run::run_alone;
-pub use status::{Status, Why};
+pub use status::{Failure, Status, Unproved, Why};
 use std::process::ExitCode;
 use std::{env, io};
 pub use summary::Summary;

@@ -4,11 +4,16 @@ ghost use Rattle.std.specs.Prelude.{◌≡◌, ◌++◌, codes, decimal};
 ghost use Rattle.compact_main.specs.Notes.{note_text, status_text, why_text, IsNoted};
 ghost use Rattle.compact_main.specs.Notes.{kind_text, cause_text, draw_text, shape_text};
 ghost use Rattle.compact_main.specs.Notes.{pair_text, meeting_text, around};
+ghost use Rattle.compact_main.specs.Notes.{cert_kind_text, check_text, unproved_text, entry_text};
+ghost use Rattle.cert_text.specs.Texts.{axis_text};
 ghost use Rattle.compact_main.specs.inner.Rooms.{IsAdded};
 
 use crate::note::Note;
 use crate::room::line_fits;
-use crate::status::{Status, Why};
+use crate::status::{Status, Unproved, Why};
+use cert_check::CheckFault;
+use cert_text::CertKind;
+use compact_types::Axis;
 use drawing_check::ShapeFault;
 use drawing_read::DrawFault;
 use gml_text::{GmlKind, NumberFault};
@@ -52,6 +57,10 @@ fn push_status(note: &mut Note, limit: usize, status: Status)
         Status::ReadFault => note.push(b"read fault"),
         Status::WriteFault => note.push(b"write fault"),
         Status::NoMemory => note.push(b"no memory"),
+        Status::NotProved(unproved) => {
+            note.push(b"not proved: ");
+            push_unproved(note, unproved);
+        }
     }
 }
 
@@ -139,6 +148,74 @@ fn push_shape_fault(note: &mut Note, fault: ShapeFault)
         }
         ShapeFault::Meeting { p, q, x, y } => push_meeting(note, p, q, x, y),
     }
+}
+
+/// Why a text is not proved.
+fn push_unproved(note: &mut Note, unproved: Unproved)
+    ensures { IsAdded note.old note.new (unproved_text unproved) }
+{
+    match unproved {
+        Unproved::Cert(fault) => push_cert_fault(note, fault.line, fault.kind),
+        Unproved::NotWhole(vertex) => {
+            push_around(note, b"vertex ", vertex, b" is not on the grid");
+        }
+        Unproved::Check(fault) => push_check_fault(note, fault),
+    }
+}
+
+/// What is wrong with the line of a certificate.
+fn push_cert_fault(note: &mut Note, line: u32, kind: CertKind)
+    ensures { IsAdded note.old note.new (cert_kind_text line kind) }
+{
+    match kind {
+        CertKind::NoCertificate => note.push(b"no certificate"),
+        CertKind::BadLine => push_around(note, b"line ", line, b" is bad"),
+        CertKind::MissingBranch => push_around(note, b"line ", line, b" lacks a branch"),
+        CertKind::TrailingLine => push_around(note, b"line ", line, b" is too many"),
+    }
+}
+
+/// Why a certificate does not show that its drawing is the best.
+fn push_check_fault(note: &mut Note, fault: CheckFault)
+    ensures { IsAdded note.old note.new (check_text fault) }
+{
+    match fault {
+        CheckFault::NotFromZero => note.push(b"not from zero"),
+        CheckFault::BadPair { entry } => push_entry(note, entry, b" names a bad pair"),
+        CheckFault::Unbalanced { entry, axis, node } => {
+            push_entry(note, entry, b" is not balanced at ");
+            note.push(name_of(axis));
+            note.push(b" node ");
+            push_number(note, node);
+        }
+        CheckFault::WeakBound { entry, .. } => push_entry(note, entry, b" has too weak a bound"),
+        CheckFault::NotACycle { entry, .. } => push_entry(note, entry, b" is not a cycle"),
+        CheckFault::NoArc { entry, axis, arc } => {
+            push_entry(note, entry, b" has no arc ");
+            push_number(note, arc);
+            note.push(b" in ");
+            note.push(name_of(axis));
+        }
+    }
+}
+
+/// The name of the axis.
+fn name_of(axis: Axis) -> &'static [u8]
+    ensures { result.now ≡ axis_text axis }
+{
+    match axis {
+        Axis::X => b"x",
+        Axis::Y => b"y",
+    }
+}
+
+/// Adds an entry of a certificate by its number, and what is wrong with it.
+fn push_entry(note: &mut Note, entry: u64, wrong: &[u8])
+    ensures { IsAdded note.old note.new (entry_text entry wrong.now) }
+{
+    note.push(b"entry ");
+    push_number(note, entry);
+    note.push(wrong);
 }
 
 /// Adds two pieces by their numbers, and where they meet.

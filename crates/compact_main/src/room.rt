@@ -3,9 +3,11 @@
 ghost use Rattle.std.specs.Prelude.{◌≤◌, length, decimal};
 ghost use Rattle.std.specs.Fmt.{signed_decimal};
 ghost use Rattle.compact_main.specs.Notes.{note_text, draw_text, shape_text};
+ghost use Rattle.compact_main.specs.Notes.{check_text, unproved_text};
 
 use crate::note::NOTE_ROOM;
-use crate::status::{Status, Why};
+use crate::status::{Status, Unproved, Why};
+use cert_check::CheckFault;
 use drawing_check::ShapeFault;
 use drawing_read::DrawFault;
 
@@ -19,6 +21,7 @@ pub(crate) fn line_fits(limit: usize, status: Status)
         Status::Refused(Why::Gml(fault)) => digits_fit(fault.at.into()),
         Status::Refused(Why::Draw(fault)) => draw_fault_fits(fault),
         Status::Refused(Why::Shape(fault)) => shape_fault_fits(fault),
+        Status::NotProved(unproved) => unproved_fits(unproved),
         _ => {}
     }
 }
@@ -58,6 +61,37 @@ fn shape_fault_fits(fault: ShapeFault)
             digits_fit(q.into());
             signed_digits_fit(x);
             signed_digits_fit(y);
+        }
+    }
+}
+
+#[tactic(auto, using(crate::proofs::Lines::cert_length, crate::proofs::Lines::around_length))]
+fn unproved_fits(unproved: Unproved)
+    ensures { length (unproved_text unproved) ≤ 200 }
+{
+    match unproved {
+        Unproved::Cert(fault) => digits_fit(fault.line.into()),
+        Unproved::NotWhole(vertex) => digits_fit(vertex.into()),
+        Unproved::Check(fault) => check_fault_fits(fault),
+    }
+}
+
+#[tactic(auto, using(crate::proofs::Lines::axis_length, crate::proofs::Lines::around_length))]
+fn check_fault_fits(fault: CheckFault)
+    ensures { length (check_text fault) ≤ 200 }
+{
+    match fault {
+        CheckFault::NotFromZero => {}
+        CheckFault::BadPair { entry }
+        | CheckFault::WeakBound { entry, .. }
+        | CheckFault::NotACycle { entry, .. } => digits_fit(entry),
+        CheckFault::Unbalanced { entry, node, .. } => {
+            digits_fit(entry);
+            digits_fit(node.into());
+        }
+        CheckFault::NoArc { entry, arc, .. } => {
+            digits_fit(entry);
+            digits_fit(arc.into());
         }
     }
 }

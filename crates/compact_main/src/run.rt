@@ -1,12 +1,12 @@
 //! The top call: what the words ask for, from reading the text to writing what it is answered.
 
 ghost use Rattle.std.specs.Prelude.{◌≤◌, length, IfOk, OnOk, IfErr};
-ghost use Rattle.std.specs.Io.KnownBytes.{Consumes, IsAtEnd};
-ghost use Rattle.io_ends.specs.Ends.{Gave, CountsRead};
-ghost use Rattle.compact_main.specs.Commands.{texts_of, Asks, HasPitch, IsThe};
-ghost use Rattle.compact_main.specs.Intakes.{limit_of};
+ghost use Rattle.io_ends.specs.Ends.{CountsRead};
+ghost use Rattle.compact_main.specs.Commands.{texts_of, Asks, IsWithinLimits, IsThe};
+ghost use Rattle.compact_main.specs.Intakes.{intake_of, limit_of, Takes, IsReadOut};
 ghost use Rattle.compact_main.specs.Notes.{IsTold};
 ghost use Rattle.compact_main.specs.Runs.{IsRun};
+ghost use Rattle.compact_main.specs.inner.Readings.{IsGivenUp};
 ghost use Rattle.compact_main.specs.inner.Writes.{IsWritten};
 
 use crate::command::{Command, command_of};
@@ -22,7 +22,7 @@ use std::alloc::Global;
 ///
 /// All memory is taken before the first byte is written. Where the status is not Done `notes` gets
 /// one line that says why, made without memory; a fault of `notes` changes no status.
-#[tactic(auto, using(crate::proofs::WordLists::pitch_asked))]
+#[tactic(auto, using(crate::proofs::WordLists::number_asked))]
 pub fn run_alone<S: Source, K: Sink, N: Sink>(
     alloc: Global,
     words: &[String],
@@ -56,7 +56,7 @@ fn run_command<S: Source, K: Sink>(
     source: &mut S,
     out: &mut K,
 ) -> Status
-    requires { HasPitch command }
+    requires { IsWithinLimits command }
     ensures { IsRun (IsThe command)
         S.left S.faults source.old source.new
         K.held K.faults out.old out.new
@@ -70,12 +70,13 @@ fn run_command<S: Source, K: Sink>(
     };
     match answer(alloc, command, bytes.as_slice()) {
         Ok(written) => write_output(out, written.as_slice()),
-        Err(Refusal::Fault(why)) => Status::Refused(why),
+        Err(Refusal::Fault(failure)) => failure.status(),
         Err(Refusal::NoMemory) => Status::NoMemory,
     }
 }
 
-/// All the bytes that the source has left, if the command reads so many.
+/// All the bytes that the source has left, if the command reads so many; none where it reads none,
+/// and then the source is left alone.
 fn read_input<S: Source>(
     alloc: Global,
     command: Command,
@@ -83,15 +84,17 @@ fn read_input<S: Source>(
 ) -> Result<Items<u8>, ReadEnd>
     // All was read.
     ensures within { IfOk result (λ bytes. length bytes ≤ limit_of command) }
-    ensures all { IfOk result (λ bytes. Consumes (S.left source.old) (S.left source.new) bytes) }
-    ensures end { OnOk result (IsAtEnd (S.left source.new)) }
+    ensures all { IfOk result (Takes (intake_of command) S.left source.old source.new) }
+    ensures end { OnOk result (IsReadOut (intake_of command) S.left source.new) }
 
     // What was given before the refusal, and more than is read exactly where it is TooLong.
-    ensures given { IfErr result
-        (λ why. Gave why (limit_of command) (S.left source.old) (S.left source.new)) }
+    ensures given { IfErr result (IsGivenUp (intake_of command) S.left source.old source.new) }
     ensures counted { CountsRead result (S.faults source.old) (S.faults source.new) }
 {
-    read_all(alloc, source, command.limit())
+    match command.text_limit() {
+        Some(limit) => read_all(alloc, source, limit),
+        None => Ok(Items::new(alloc)),
+    }
 }
 
 /// Writes the output of a command, and answers how that ended.
@@ -107,9 +110,15 @@ fn write_output<K: Sink>(out: &mut K, written: &[u8]) -> Status
 }
 
 #[cfg(test)]
+mod certificates;
+#[cfg(test)]
+mod certified;
+#[cfg(test)]
 mod drawn;
 #[cfg(test)]
 mod figures;
+#[cfg(test)]
+mod flaws;
 #[cfg(test)]
 mod tests;
 #[cfg(test)]

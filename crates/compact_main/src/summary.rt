@@ -77,7 +77,11 @@ pub(crate) fn summary_text(alloc: Global, summary: Summary) -> Result<Items<u8>,
 }
 
 /// Adds a name and its number, on a line of their own.
-fn push_line<I: Integer>(text: &mut Items<u8>, name: &[u8], number: I) -> Result<(), NoMemory>
+pub(crate) fn push_line<I: Integer>(
+    text: &mut Items<u8>,
+    name: &[u8],
+    number: I,
+) -> Result<(), NoMemory>
     ensures { OnOk result (text.new ≡ text.old ++ number_line name.now (I.text number)) }
 {
     let mut buffer = Buffer::new();

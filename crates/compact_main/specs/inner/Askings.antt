@@ -1,18 +1,13 @@
--- Options, pitches and commands that were found in words.
+-- Options and commands that were found in words.
 use Rattle.std.specs.Prelude.{ℕ, Bool, List, Option, None, Some}
 use Rattle.compact_main.specs.declared.command.Options.{Options}
 use Rattle.compact_main.specs.declared.command.Command.{Command}
-use Rattle.compact_main.specs.Commands.{AreOptions, AskForPlain, Asks}
+use Rattle.compact_main.specs.Commands.{AreOptions, Asks}
 
 -- the words are these options, or none
 abbrev pub AreFound : List (List ℕ) → Option Options → Type 0
 AreFound words None = (plain : Bool) (given : Option ℕ) → AreOptions words plain given → ⊥
 AreFound words (Some options) = AreOptions words options.plain options.pitch
-
--- the words ask for a plain drawing of this pitch, or for none
-abbrev pub IsAskedFor : List (List ℕ) → Option ℕ → Type 0
-IsAskedFor words None = (pitch : ℕ) → AskForPlain words pitch → ⊥
-IsAskedFor words (Some pitch) = AskForPlain words pitch
 
 -- the words ask for this command, or for none
 abbrev pub IsCommand : List (List ℕ) → Option Command → Type 0

@@ -3,7 +3,7 @@
 use crate::run::drawn::*;
 use crate::run::run_alone;
 use crate::run::texts::*;
-use crate::status::{Status, Why};
+use crate::status::{Status, Unproved, Why};
 use drawing_check::ShapeFault;
 use drawing_read::DrawFault;
 use gml_text::{GmlFault, GmlKind, NumberFault};
@@ -39,6 +39,8 @@ const PITCH_FIRST: &[&str] = &["draw", "--pitch", "50", "--plain"];
 const AT_10000: &[&str] = &["draw", "--plain", "--pitch", "10000"];
 
 const MEASURE: &[&str] = &["measure"];
+
+const VERIFY: &[&str] = &["verify"];
 
 const USAGE: &[u8] =
     b"usage: draw [--workers N] [--pitch N] [--plain] | check | measure | verify | sample N\n";
@@ -187,10 +189,39 @@ fn draws_the_least_places(rt: HostRuntime) -> Result<(), Fail> {
 }
 
 /// A run with these words without faults that writes this.
-fn asked<'a>(words: &'a [&'a str], text: &'a [u8], written: &'a [u8]) -> Row<'a> {
+pub(crate) fn asked<'a>(words: &'a [&'a str], text: &'a [u8], written: &'a [u8]) -> Row<'a> {
     Row {
         words,
-        ..drawn("a pitch", text, written)
+        ..drawn("no fault", text, written)
+    }
+}
+
+/// A run with these words that reads nothing, not even where a read would fail, and writes this.
+pub(crate) fn unread<'a>(words: &'a [&'a str], written: &'a [u8]) -> Row<'a> {
+    Row {
+        failing: &[1],
+        ..asked(words, b"", written)
+    }
+}
+
+/// A run of `verify` on a text that is not proved.
+pub(crate) fn not_proved<'a>(
+    name: &'a str,
+    text: &'a [u8],
+    unproved: Unproved,
+    line: &'a [u8],
+) -> Row<'a> {
+    Row {
+        words: VERIFY,
+        ..ended(name, text, Status::NotProved(unproved), line)
+    }
+}
+
+/// A run of `verify` on a text with a slanted piece.
+pub(crate) fn slanted_when_verified<'a>(text: &'a [u8], piece: u32, line: &'a [u8]) -> Row<'a> {
+    Row {
+        words: VERIFY,
+        ..no_shape("slanted", text, ShapeFault::Slanted(piece), line)
     }
 }
 
@@ -258,7 +289,8 @@ fn refuses_options(rt: HostRuntime) -> Result<(), Fail> {
         bad_words("no number", &["draw", "--plain", "--pitch"]),
         bad_words("a pitch twice", &twice),
         bad_words("plain twice", &["draw", "--plain", "--plain"]),
-        bad_words("a certificate", &["draw", "--pitch", "5"]),
+        bad_words("one word, and no plain", &["draw", "--pitch=5"]),
+        bad_words("workers", &["draw", "--workers", "0"]),
         bad_words("options first", &["--plain", "draw"]),
     ];
     for row in &rows {
@@ -270,7 +302,10 @@ fn refuses_options(rt: HostRuntime) -> Result<(), Fail> {
 #[test]
 fn ends_by_words_and_faults(rt: HostRuntime) -> Result<(), Fail> {
     let rows = [
-        bad_words("an option is missing", &["draw"]),
+        bad_words("a sample of none", &["sample", "0"]),
+        bad_words("too large a sample", &["sample", "251"]),
+        bad_words("a sample without a number", &["sample"]),
+        bad_words("a word behind verify", &["verify", "x"]),
         bad_words("a word too many", &["check", "x"]),
         bad_words("a word behind measure", &["measure", "x"]),
         bad_words("no words", &[]),

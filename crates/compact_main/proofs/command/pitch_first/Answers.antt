@@ -6,5 +6,5 @@ returns-in-Some c = λ words are. pitch_twice words c.args.digits.now c.args.pla
 
 pub returns-in-None : goal.returns-in-None
 returns-in-None c = λ words are.
-    with_number words c.args.digits.now c.args.plain c.args.given c.pitch_of.result c.with_pitch.result c.in-None.is
-    c.pitch_of.ensures.some c.pitch_of.ensures.none c.with_pitch.ensures are
+    with_number words c.args.digits.now c.args.plain c.args.given c.number_of.result c.with_pitch.result c.in-None.is
+    c.number_of.ensures.some c.number_of.ensures.none c.with_pitch.ensures are

@@ -2,5 +2,8 @@ use Rattle.compact_main.proofs.CommandAnswers.{output_valid}
 use Rattle.compact_main.proofs.CommandOutputs.{some_output}
 use Rattle.compact_main.proofs.laws.accepted_texts_have_an_output.Goals as goal
 
-pub returns : goal.returns
-returns c = λ command text. (some_output command text, λ (written, output). output_valid command text written output)
+pub returns-clause-accepted : goal.returns-clause-accepted
+returns-clause-accepted c = output_valid
+
+pub returns-clause-output : goal.returns-clause-output
+returns-clause-output c = some_output

@@ -6,3 +6,6 @@ returns-in-Refused c = rw c.in-Refused.is (then c.push-in-Refused.ensures c.push
 
 pub returns-in-BadWords : goal.returns-in-BadWords
 returns-in-BadWords c = rw c.in-BadWords.is c.push-in-BadWords.ensures
+
+pub returns-in-NotProved : goal.returns-in-NotProved
+returns-in-NotProved c = rw c.in-NotProved.is (then c.push-in-NotProved.ensures c.push_unproved.ensures)

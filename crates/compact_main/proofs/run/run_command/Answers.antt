@@ -1,4 +1,5 @@
-use Rattle.compact_main.proofs.RunEnds.{refused_run, long_run, written_run}
+use Rattle.compact_main.specs.Intakes.{intake_of}
+use Rattle.compact_main.proofs.RunEnds.{failed_run, long_run, fault_run, written_run, gave_too_much}
 use Rattle.compact_main.proofs.run.run_command.Goals as goal
 
 pub returns-in-Ok-answer : goal.returns-in-Ok-answer
@@ -12,14 +13,23 @@ returns-in-Ok-answer g c =
 
 pub returns-in-Err-Fault : goal.returns-in-Err-Fault
 returns-in-Err-Fault g c =
-    refused_run c.args.command g.S.Source.left g.S.Source.faults c.args.source.now c.read_input.new.source
-    g.K.Sink.held g.K.Sink.faults c.args.out.now c.in-Err-Fault.why c.as_slice.result.now
-    (rw c.as_slice.ensures c.in-Ok.ensures.all) c.in-Ok.ensures.end
-    (rw c.in-Err-Fault.field-0-is at c.in-Err-Fault.ensures.fault) c.in-Ok.ensures.counted
+    rw c.status.ensures
+    (failed_run c.args.command g.S.Source.left g.S.Source.faults c.args.source.now c.read_input.new.source
+    g.K.Sink.held g.K.Sink.faults c.args.out.now c.as_slice.result.now
+    (rw c.as_slice.ensures c.in-Ok.ensures.all) c.in-Ok.ensures.end c.in-Ok.ensures.counted c.in-Err-Fault.failure
+    (rw c.in-Err-Fault.field-0-is at c.in-Err-Fault.ensures.fault))
 
 pub returns-in-Err-TooLong : goal.returns-in-Err-TooLong
 returns-in-Err-TooLong g c =
-    let gave = rw c.in-Err-TooLong.field-0-is at c.in-Err-TooLong.ensures.given in
+    let gave = gave_too_much g.S.Source.left g.S.Source.faults c.args.source.now c.read_input.new.source (intake_of c.args.command)
+    (rw c.in-Err-TooLong.field-0-is at c.in-Err-TooLong.ensures.given) in
     long_run c.args.command g.S.Source.left g.S.Source.faults c.args.source.now c.read_input.new.source
     g.K.Sink.held g.K.Sink.faults c.args.out.now gave.0 gave.1 gave.2
     (rw c.in-Err-TooLong.field-0-is at c.in-Err-TooLong.ensures.counted)
+
+pub returns-in-Err-ReadFault : goal.returns-in-Err-ReadFault
+returns-in-Err-ReadFault g c =
+    fault_run c.args.command g.S.Source.left g.S.Source.faults c.args.source.now c.read_input.new.source
+    g.K.Sink.held g.K.Sink.faults c.args.out.now
+    (rw c.in-Err-ReadFault.field-0-is at c.in-Err-ReadFault.ensures.given)
+    (rw c.in-Err-ReadFault.field-0-is at c.in-Err-ReadFault.ensures.counted)

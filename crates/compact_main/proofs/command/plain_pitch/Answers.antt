@@ -1,9 +1,0 @@
-use Rattle.compact_main.specs.Commands.{texts_of}
-use Rattle.compact_main.proofs.WordLists.{too_many}
-use Rattle.compact_main.proofs.command.plain_pitch.Goals as goal
-
-pub returns-then-has_too_many : goal.returns-then-has_too_many
-returns-then-has_too_many c = too_many c.args.options.now (c.has_too_many.ensures.0 c.if-has_too_many.true)
-
-pub returns : goal.returns
-returns c = c.pitch_where_plain.ensures (texts_of c.args.options.now) c.options_of.ensures

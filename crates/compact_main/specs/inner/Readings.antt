@@ -1,0 +1,22 @@
+-- How a command reads its text, and how its reading may end.
+use Rattle.std.specs.Prelude.{◌≡◌, ℕ, List, Option, None, Some}
+use Rattle.io_ends.specs.Ends.{Gave}
+use Rattle.io_ends.specs.declared.transfer.ReadEnd.{ReadEnd}
+use Rattle.compact_main.specs.Intakes.{Intake}
+use Rattle.compact_main.specs.Intakes.Intake.{a_text, nothing}
+
+-- the limit of the text that is read, or none where nothing is
+abbrev pub IsTextLimit : Intake → Option ℕ → Type 0
+IsTextLimit (a_text limit) given = given ≡ Some limit
+IsTextLimit nothing given = given ≡ None
+
+-- what was given before the reading was given up; where nothing is read it never is
+abbrev pub IsGivenUp : {S : Type 0} →
+    Intake → (S → Option (List ℕ)) → S → S → ReadEnd → Type 0
+IsGivenUp (a_text limit) left source source' why = Gave why limit (left source) (left source')
+IsGivenUp nothing left source source' why = ⊥
+
+-- a text is read
+abbrev pub IsText : Intake → Type 0
+IsText (a_text limit) = Unit {0}
+IsText nothing = ⊥
