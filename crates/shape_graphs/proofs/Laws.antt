@@ -15,3 +15,5 @@ pub use Rattle.shape_graphs.proofs.SimpleLemmas.{simple_cycle}
 pub use Rattle.shape_graphs.proofs.Existence.{no_cycle_where_solved}
 -- least keys, and what verdicts say
 pub use Rattle.shape_graphs.proofs.KeyLemmas.{not_before_least, one_least, SomeCycle, AllAbove, SomeLeast, IsSettled, exact}
+-- choices that fit, and the arcs of the choices, with one choice more or less
+pub use Rattle.shape_graphs.proofs.GrowingLemmas.{fit_more, fit_less, last_fits, arc_along, no_arc_across}

@@ -16,3 +16,4 @@ pub mod FewArcs
 pub mod GraphFacts
 pub mod Existence
 pub mod Pushing
+pub mod GrowingLemmas

@@ -2,6 +2,7 @@ pub mod Arcs
 pub mod Paths
 pub mod Orders
 pub mod Graphs
+pub mod Growing
 pub mod Separation
 pub mod Places
 pub mod Flows

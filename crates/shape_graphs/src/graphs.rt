@@ -131,8 +131,9 @@ fn choice_arc(bars: &Bars, axis: Axis, choice: Choice) -> Option<Arc>
     }
 }
 
-/// From the last node of the segment that stands first at the side to the first node of the other.
-fn side_arc(bars: &Bars, choice: Choice) -> Arc
+/// The arc of a choice, in the graph of the axis along which its side keeps apart: from the last
+/// node of the segment that comes first to the first node of the other (Klau and Mutzel).
+pub fn side_arc(bars: &Bars, choice: Choice) -> Arc
     requires { IsChoice bars.now choice }
     ensures { result ≡ graphs.side_arc bars.now choice.s choice.t choice.side }
 {
@@ -210,8 +211,8 @@ fn axis_of_way(way: Way) -> Axis
     }
 }
 
-/// The axis along which a side keeps apart.
-fn axis_of_side(side: u8) -> Axis
+/// The axis along which a side keeps two segments apart: x for the sides 0 and 1, else y.
+pub fn axis_of_side(side: u8) -> Axis
     ensures { result ≡ side_axis side }
 {
     match side {
