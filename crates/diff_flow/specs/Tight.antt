@@ -1,11 +1,9 @@
 -- Numbers on the nodes that prove a flow best: they solve the graph and are tight for the flow.
-use Rattle.std.specs.Prelude.{ℕ, ◌<◌, pos, ℤ, ◌≤ℤ◌, List, slice_index_or}
+use Rattle.std.specs.Prelude.{ℕ, ◌<◌, pos, ℤ, ◌≤ℤ◌, List}
 use Rattle.shape_graphs.specs.declared.graph.Arc.{Arc}
 use Rattle.shape_graphs.specs.Flows.{IsSolution, IsTight}
-
 -- the number of a node
-abbrev pub number_at : List ℤ → ℕ → ℤ
-number_at numbers node = slice_index_or numbers node (pos 0)
+pub use Rattle.shape_graphs.specs.Flows.{number_at}
 
 -- the numbers from zero upward solve the graph and are tight for the flow
 pub record AreTight (nodes : ℕ) (arcs : List Arc) (amounts : List ℕ)

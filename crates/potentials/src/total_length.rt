@@ -35,6 +35,11 @@ impl Measure for TotalLength {
         plain_length(&bars.shape().plan, places)
     }
 
+    /// Both flows once more, on the allocators of their lists.
+    fn again(&self, _alloc: Global, proof: &Flows) -> Result<Flows, NoMemory> {
+        proof.copy()
+    }
+
     /// The verdict on the choices. It begins with the flows of `start`, or with the two first flows
     /// where there is none.
     fn solve(

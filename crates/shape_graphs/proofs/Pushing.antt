@@ -34,16 +34,19 @@ pub list_more : {A B : Type 0} (h : A → Option B) (xs : List A) (d : A) (i : �
 list_more {A} {B} h xs d i within = ap (filter_map h) (take_more xs i d within) ∙ kept_last h (take i xs) (slice_index_or xs i d)
 
 -- the same for what the code reads
-pub pushed_range : {B : Type 0} (h : ℕ → Option B) (i : ℕ) (old new : List B) (kept : Option B) →
-    old ≡ filter_map h (range_with_len 0 i) → kept ≡ h i → new ≡ old ++ option_to_list kept → new ≡ filter_map h (range_with_len 0 (i + 1))
-pushed_range {B} h i old new kept is_old is_kept is_new =
+pushed_on : {B : Type 0} (front kept longer old new : List B) (o o' : Option B) → old ≡ front ++ kept → o ≡ o' → new ≡ old ++ option_to_list o →
+    longer ≡ kept ++ option_to_list o' → new ≡ front ++ longer
+pushed_on {B} front kept longer old new o o' is_old is_o is_new more =
+    is_new ∙ ap (λ (l : List B). l ++ option_to_list o) is_old ∙ append_assoc front kept (option_to_list o)
+    ∙ ap (λ (p : Option B). front ++ (kept ++ option_to_list p)) is_o ∙ ap (λ (l : List B). front ++ l) (sym more)
+
+pub pushed_range : {B : Type 0} (h : ℕ → Option B) (i : ℕ) (front old new : List B) (kept : Option B) →
+    old ≡ front ++ filter_map h (range_with_len 0 i) → kept ≡ h i → new ≡ old ++ option_to_list kept → new ≡ front ++ filter_map h (range_with_len 0 (i + 1))
+pushed_range {B} h i front old new kept is_old is_kept is_new =
     let next : i + 1 ≡ suc i = omega arith in
-    is_new ∙ ap (λ (l : List B). l ++ option_to_list kept) is_old ∙ ap (λ (o : Option B). filter_map h (range_with_len 0 i) ++ option_to_list o) is_kept
-    ∙ sym (range_more h i (i + 1) next)
+    pushed_on front (filter_map h (range_with_len 0 i)) (filter_map h (range_with_len 0 (i + 1))) old new kept (h i) is_old is_kept is_new (range_more h i (i + 1) next)
 
 pub pushed_list : {A B : Type 0} (h : A → Option B) (xs : List A) (d : A) (i : ℕ) (front old new : List B) (kept : Option B) → i < length xs →
     old ≡ front ++ filter_map h (take i xs) → kept ≡ h (slice_index_or xs i d) → new ≡ old ++ option_to_list kept → new ≡ front ++ filter_map h (take (i + 1) xs)
 pushed_list {A} {B} h xs d i front old new kept within is_old is_kept is_new =
-    is_new ∙ ap (λ (l : List B). l ++ option_to_list kept) is_old ∙ append_assoc front (filter_map h (take i xs)) (option_to_list kept)
-    ∙ ap (λ (o : Option B). front ++ (filter_map h (take i xs) ++ option_to_list o)) is_kept
-    ∙ ap (λ (l : List B). front ++ l) (sym (list_more h xs d i within))
+    pushed_on front (filter_map h (take i xs)) (filter_map h (take (i + 1) xs)) old new kept (h (slice_index_or xs i d)) is_old is_kept is_new (list_more h xs d i within)

@@ -123,10 +123,3 @@ round_at nodes arcs t met k walk next cycle new is is_walk is_next some long eac
 
     longer : List ℕ
     longer = cycle ++ last ∷ []
-
--- the node that is met again is found
-pub is_found : (nodes : ℕ) (arcs : List Arc) (t : Trail) (met : ℕ) (walk : List ℕ) → IsMet nodes arcs t met → walk ≡ t.walk →
-    ((j : ℕ) → 0 ≤ j → j < length walk → slice_index walk j ≡ met → ⊥) → ⊥
-is_found nodes arcs t met walk is is_walk none =
-    let found = is.holds.walk.has_walked met is.is_node is.walked in
-    none found.0 (omega arith) (omega (arith, ap length is_walk, found.1)) (ap (λ (l : List ℕ). slice_index l found.0) is_walk ∙ found.2)

@@ -33,10 +33,10 @@ bound_by shape choices flows =
     bound_of (arcs_of X shape choices) flows.x.amounts
     +ℤ bound_of (arcs_of Y shape choices) flows.y.amounts
 
--- the bounds of the flows add up to what the verdict says: its bound, or the worth of its key; of
--- a cycle nothing is asked
+-- the bounds of the flows add up to what the verdict says: its bound, or the worth of its key; no
+-- flows back a cycle
 abbrev pub AddUpTo : Shape → List Choice → Flows → Verdict Flows → Type 0
-AddUpTo shape choices flows (Cyclic axis cycle) = Unit {0}
+AddUpTo shape choices flows (Cyclic axis cycle) = ⊥
 AddUpTo shape choices flows (Above bound stop proof) = bound_by shape choices flows ≡ bound
 AddUpTo shape choices flows (Least key proof) = bound_by shape choices flows ≡ key.worth
 

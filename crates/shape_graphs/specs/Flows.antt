@@ -43,6 +43,10 @@ pub record IsBestFlow (nodes : ℕ) (arcs : List Arc) (amounts : List ℕ) : Typ
   pub balanced : Balances nodes arcs amounts
   pub best : (others : List ℕ) → Balances nodes arcs others → bound_of arcs others ≤ℤ bound_of arcs amounts
 
+-- the number of a node
+abbrev pub number_at : List ℤ → ℕ → ℤ
+number_at numbers node = slice_index_or numbers node (pos 0)
+
 -- the difference of numbers on the nodes over arc i
 abbrev pub over : List Arc → (ℕ → ℤ) → ℕ → ℤ
 over arcs numbers i = numbers (arc_at arcs i).to -ℤ numbers (arc_at arcs i).from

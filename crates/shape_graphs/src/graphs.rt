@@ -1,6 +1,6 @@
 //! The constraint graphs of a shape and a list of choices.
 
-ghost use Rattle.std.specs.Prelude.{◌≡◌, ◌<◌, ◌++◌, [], pos, length};
+ghost use Rattle.std.specs.Prelude.{◌≡◌, ◌<◌, ◌++◌, pos, length};
 ghost use Rattle.std.specs.Prelude.{IfOk, OnOk, option_to_list};
 ghost use Rattle.compact_types.specs.declared.places.Axis.TheVariants as axis;
 ghost use Rattle.compact_types.specs.Axes as ends;
@@ -57,10 +57,8 @@ fn graph_along(bars: &Bars, choices: &[Choice], axis: Axis, arcs: Items<Arc>) ->
 
 /// Adds the arcs of the pieces, each to those of the axis along which it goes.
 fn push_pieces(columns: &mut Items<Arc>, rows: &mut Items<Arc>, bars: &Bars) -> Result<(), NoMemory>
-    requires no_columns { columns.old ≡ [] }
-    requires no_rows { rows.old ≡ [] }
-    ensures columns { OnOk result (columns.new ≡ piece_arcs axis.X bars.now) }
-    ensures rows { OnOk result (rows.new ≡ piece_arcs axis.Y bars.now) }
+    ensures columns { OnOk result (columns.new ≡ columns.old ++ piece_arcs axis.X bars.now) }
+    ensures rows { OnOk result (rows.new ≡ rows.old ++ piece_arcs axis.Y bars.now) }
 {
     let count = bars.shape().plan.pieces.len();
     for i in 0..count {

@@ -15,6 +15,7 @@ ghost use Rattle.compact_types.specs.Moves.{moved};
 ghost use Rattle.compact_types.specs.Orders.{IsBefore};
 ghost use Rattle.bars.specs.Solutions.{Fit, Solves};
 ghost use Rattle.shape_graphs.specs.declared.measure.Verdict.{Verdict as AnyVerdict};
+ghost use Rattle.shape_graphs.specs.declared.measure.Verdict.TheVariants as verdicts;
 ghost use Rattle.shape_graphs.specs.Backings.{DoBack};
 ghost use Rattle.shape_graphs.specs.Graphs.{arcs_of};
 ghost use Rattle.shape_graphs.specs.Measures.{
@@ -75,6 +76,10 @@ pub trait Measure: Sync {
         ensures moved { (dx dy : ℤ) →
             worth_of Self.Proof.objective bars.now (moved dx dy places.now) ≡ result };
 
+    /// The same proof once more, so that a branch can be solved from it while another keeps it.
+    fn again(&self, alloc: Global, proof: &Self::Proof) -> Result<Self::Proof, NoMemory>
+        ensures { IfOk result (λ copy. copy ≡ proof.now) };
+
     /// The verdict on the choices: a cycle of the first graph that has one; else, where the least
     /// key is worth more than `stop_above`, a bound above it; else the least key. `start` is a
     /// proof of a verdict on the choices without the last of them, from which the solver may
@@ -104,8 +109,9 @@ pub trait Measure: Sync {
             (IsBacked (Self.Proof.backs bars.now extension.now.choices)) };
 }
 
-/// No solution from zero comes before the least key, and there is at most one least key.
-pub fn least_keys()
+/// No solution from zero comes before the least key, and the choices determine it: there is at most
+/// one, so any two verdicts with a least key on the same choices have the same key.
+pub fn least_keys<P, Q>()
     ensures never_before { (objective : Objective) (shape : AnyShape) (choices : List AnyChoice)
         (key : AnyKey) (places : AnyPlaces) → IsLeastKey objective shape choices key →
         Solves shape choices places → IsFromZero places →
@@ -113,6 +119,10 @@ pub fn least_keys()
     ensures one { (objective : Objective) (shape : AnyShape) (choices : List AnyChoice)
         (k l : AnyKey) → IsLeastKey objective shape choices k →
         IsLeastKey objective shape choices l → k ≡ l }
+    ensures same { (objective : Objective) (shape : AnyShape) (choices : List AnyChoice)
+        (k l : AnyKey) (proof : P) (other : Q) →
+        IsRight objective shape choices (verdicts.Least k proof) →
+        IsRight objective shape choices (verdicts.Least l other) → k ≡ l }
 {}
 
 /// Which verdict is given is settled by the choices and the stop: a cycle exactly where a graph has

@@ -103,7 +103,9 @@ fn walk_from(
 {
     match trail.marks.as_slice()[start as usize] {
         Mark::Fresh => {}
-        _ => return Ok(None),
+        Mark::Left => return Ok(None),
+        // The walk has no node yet.
+        Mark::Walked => unreachable!(),
     }
     trail.enter(start)?;
     while !trail.walk.is_empty() {
@@ -203,5 +205,6 @@ fn round(alloc: Global, graph: &DiffGraph, trail: &Trail, met: u32) -> Result<It
             return Ok(arcs);
         }
     }
-    Ok(arcs)
+    // The node that is met again is one of the walk.
+    unreachable!()
 }
