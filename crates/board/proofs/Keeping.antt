@@ -17,7 +17,7 @@ use Rattle.board.specs.declared.entries.Settled.TheVariants as settled
 use Rattle.board.specs.declared.standings.Standing.{Standing}
 use Rattle.board.specs.declared.standings.Standing.TheVariants.{Waiting, Held, Done}
 use Rattle.board.specs.Boards.{BoardView, IsCaller, after_claim, board_state, enlisted, opened_board, verdict_of, verdicts_opened}
-use Rattle.board.specs.Facts.{AreByCallers, AreFacts, AreSound, IsCovered, IsDrawnKey, IsKeptAt, LeadsTo}
+use Rattle.board.specs.Facts.{AreByCallers, AreFacts, AreSound, IsCovered, IsDrawnKey, IsKeptAt, LeadsTo, SplitsAtBranchPair}
 use Rattle.board.specs.Histories.{State, after, branch_count, caller_of, choices_of, opened, standing_of, standings_opened, IsWaiting}
 use Rattle.board.specs.Verdicts.{IsSoundVerdict}
 use Rattle.board.proofs.AfterLemmas.{claimed_count, claimed_other, claimed_same, open_below, waiting_open}
@@ -100,6 +100,8 @@ module _ {P : Type 0} (objective : Objective) (Backs : Shape → List Choice →
     sound = subst (λ (s : Shape). IsSoundVerdict objective Backs s (choices_of (board_state new) j) kept.verdict) shape
         (subst (λ (l : List Choice). IsSoundVerdict objective Backs old.shape l kept.verdict) (sym choices) kept.sound);
     leads = leads_still old.incumbent new.incumbent fewer kept.verdict what kept.leads;
+    splits = subst (λ (s : Shape). SplitsAtBranchPair s (choices_of (board_state new) j) kept.verdict what) shape
+        (subst (λ (l : List Choice). SplitsAtBranchPair old.shape l kept.verdict what) (sym choices) kept.splits);
   }
 
   pub facts_opened : (shape : Shape) (key : Key) → IsSound shape → IsDrawnKey objective shape key →

@@ -7,7 +7,11 @@ pub use Rattle.board.proofs.OpenLaws.{open_inside, waiting_open, held_open, some
 -- what a history tells of a branch
 pub use Rattle.board.proofs.TellingLaws.{told, holder_holds, held_claimed, held_not_settled}
 -- branches that were split
-pub use Rattle.board.proofs.SplitLaws.{splits_have_children, splits_name_a_pair}
+pub use Rattle.board.proofs.SplitLaws.{splits_have_children, splits_name_a_pair, splits_at_branch_pair}
+-- where branches come from
+pub use Rattle.board.proofs.ParentLaws.{branches_differ, opened_from_split, some_parent}
+-- the pair that settles a branch whatever the incumbent is
+pub use Rattle.board.proofs.PairLaws.{branch_pairs_settle}
 -- how much is left to do
 pub use Rattle.board.proofs.WorkLaws.{work_stays, work_falls}
 -- the facts of a board

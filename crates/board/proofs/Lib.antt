@@ -6,6 +6,8 @@ pub mod TellingLaws
 pub mod WorkLaws
 pub mod AfterLemmas
 pub mod SplitLaws
+pub mod PairLaws
+pub mod ParentLaws
 pub mod FewChoices
 pub mod Covering
 pub mod Children

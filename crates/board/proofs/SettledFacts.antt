@@ -15,15 +15,16 @@ use Rattle.shape_graphs.specs.declared.measure.Verdict.{Verdict}
 use Rattle.shape_graphs.specs.declared.measure.Verdict.TheVariants.{Cyclic, Above, Least}
 use Rattle.shape_graphs.specs.Measures.{IsLeastKey}
 use Rattle.shape_graphs.proofs.Laws.{not_before_least}
+use Rattle.separation.specs.Branching.{IsBranchPair}
 use Rattle.board.specs.declared.entries.Entry.TheVariants as entries
 use Rattle.board.specs.declared.entries.Settled.{Settled}
 use Rattle.board.specs.declared.entries.Settled.TheVariants as settled
 use Rattle.board.specs.declared.standings.Standing.{Standing}
 use Rattle.board.specs.declared.standings.Standing.TheVariants.{Waiting}
 use Rattle.board.specs.Boards.{BoardView, IsCaller, IsOutcome, after_settle, board_state, incumbent_after, outcome_before, verdict_of, verdicts_opened}
-use Rattle.board.specs.Facts.{AreFacts, AreSound, IsCovered, IsDrawnKey, IsKeptAt, IsNotUndercut, IsSettledBy, LeadsTo}
+use Rattle.board.specs.Facts.{AreFacts, AreSound, IsCovered, IsDrawnKey, IsKeptAt, IsNotUndercut, IsSettledBy, LeadsTo, SplitsAtBranchPair}
 use Rattle.board.specs.Histories.{State, after, branch_count, choices_of, choices_opened, standing_of, standings_opened, IsHeldBy, NumbersChildren}
-use Rattle.board.specs.Verdicts.{IsPairAt, IsPairFor, IsSoundVerdict, IsSplitPair}
+use Rattle.board.specs.Verdicts.{IsPairAt, IsPairFor, IsSoundVerdict}
 use Rattle.board.proofs.AfterLemmas.{choices_before, choices_behind, held_open, open_below, settled_count, standing_behind, standing_other, standing_same}
 use Rattle.board.proofs.Children.{children_sound}
 use Rattle.board.proofs.Covering.{IsHandled, covered_settled, in_child, none_above, none_before, none_where_cyclic}
@@ -41,6 +42,7 @@ module _ {P : Type 0} (objective : Objective) (Backs : Shape → List Choice →
     pub handled : (below : id < branch_count (board_state board)) →
         IsHandled objective board.shape (board_state board) who id below (same_count board.entries) what (incumbent_after board.incumbent verdict what)
     pub leads : LeadsTo (incumbent_after board.incumbent verdict what) verdict what
+    pub splits : SplitsAtBranchPair board.shape (choices_of (board_state board) id) verdict what
 
   module _ (board : BoardView P) (who id : ℕ) (verdict : Verdict P) (what : Settled)
       (facts : AreFacts objective Backs board) (caller : IsCaller board.given who) (held : IsHeldBy (board_state board) id who)
@@ -110,6 +112,7 @@ module _ {P : Type 0} (objective : Objective) (Backs : Shape → List Choice →
       kept = verdict_same;
       sound = subst (λ (l : List Choice). IsSoundVerdict objective Backs board.shape l verdict) (sym (choices_still id below)) sound;
       leads = fine.leads;
+      splits = subst (λ (l : List Choice). SplitsAtBranchPair board.shape l verdict what) (sym (choices_still id below)) fine.splits;
     }
 
     kept_each : (j : ℕ) → j < branch_count next → IsKeptAt objective Backs new j (standing_of next j)
@@ -173,6 +176,7 @@ module _ {P : Type 0} (objective : Objective) (Backs : Shape → List Choice →
       handled = λ below places drawing from_zero comes least solves.
           absurd (none places from_zero (subst (λ (l : Key). IsBefore (key_of objective board.shape places) l) stays comes) least solves);
       leads = subst (λ (key : Key). LeadsTo key verdict settled.Closed) (sym stays) leads;
+      splits = tt;
     }
 
     -- the least key of the branch is that of a drawing, and comes before the incumbent
@@ -186,32 +190,34 @@ module _ {P : Type 0} (objective : Objective) (Backs : Shape → List Choice →
       handled = λ below places drawn from_zero comes undercut solves.
           absurd (not_before_least objective board.shape parent key places least solves from_zero comes);
       leads = inr (λ comes. not_before_itself key comes);
+      splits = tt;
     }
 
-    -- the branch is split at a pair that shares a point in the places of its least key
-    fine_split : (key : Key) (proof : P) (s t : ℕ) → IsLeastKey objective board.shape parent key → IsSplitPair board.shape key.places s t →
+    -- the branch is split at the branch pair of its least key
+    fine_split : (key : Key) (proof : P) (s t : ℕ) → IsLeastKey objective board.shape parent key → IsBranchPair board.shape parent key.places s t →
         IsFine board who id (Least key proof) (settled.Split (branch_count (board_state board)) s t)
-    fine_split key proof s t least split = record {
+    fine_split key proof s t least branch = record {
       numbers = refl;
       drawn = facts.incumbent;
       fewer = λ other comes. comes;
-      children = children_sound board.shape parent facts.shape (facts.choices id inside) key.places least.solves s t split.pair split.share;
+      children = children_sound board.shape parent facts.shape (facts.choices id inside) key.places least.solves s t branch.pair branch.share;
       handled = λ below places drawing from_zero comes undercut solves.
           in_child objective board.shape (board_state board) who id below (same_count board.entries)
-          (branch_count (board_state board)) s t split.pair places drawing solves;
+          (branch_count (board_state board)) s t branch.pair places drawing solves;
       leads = inl tt;
+      splits = branch;
     }
 
     -- a least key before the incumbent
     fine_before : (key : Key) (proof : P) (pair : Option (ℕ × ℕ)) → IsLeastKey objective board.shape parent key → IsBefore key board.incumbent →
-        IsPairAt board.shape key.places pair →
+        IsPairAt board.shape parent board.incumbent key pair →
         IsFine board who id (Least key proof) (outcome_before (branch_count (board_state board)) pair)
     fine_before key proof None least before at = fine_improved key proof least before (at.none.0 refl)
-    fine_before key proof (Some (s, t)) least before at = fine_split key proof s t least (at.some s t refl)
+    fine_before key proof (Some (s, t)) least before at = fine_split key proof s t least (at.first s t refl before)
 
     -- each outcome that the table allows is fine
     fine_outcome : (verdict : Verdict P) (pair : Option (ℕ × ℕ)) (what : Settled) → IsSoundVerdict objective Backs board.shape parent verdict →
-        IsPairFor board.shape verdict pair → IsOutcome board verdict pair what → IsFine board who id verdict what
+        IsPairFor board.shape parent board.incumbent verdict pair → IsOutcome board verdict pair what → IsFine board who id verdict what
     fine_outcome (Cyclic axis cycle) pair what sound at is =
         subst (λ (w : Settled). IsFine board who id (Cyclic axis cycle) w) (sym is)
         (fine_closed (Cyclic axis cycle) refl refl
@@ -231,7 +237,7 @@ module _ {P : Type 0} (objective : Objective) (Backs : Shape → List Choice →
   pub facts_settled : (board : BoardView P) (who id : ℕ) (verdict : Verdict P) (pair : Option (ℕ × ℕ)) (what : Settled) →
       AreFacts objective Backs board → IsCaller board.given who → IsHeldBy (board_state board) id who →
       IsSoundVerdict objective Backs board.shape (choices_of (board_state board) id) verdict →
-      IsPairFor board.shape verdict pair → IsOutcome board verdict pair what →
+      IsPairFor board.shape (choices_of (board_state board) id) board.incumbent verdict pair → IsOutcome board verdict pair what →
       AreFacts objective Backs (after_settle board who id verdict what)
   facts_settled board who id verdict pair what facts caller held sound at is =
       facts_from_fine board who id verdict what facts caller held sound (fine_outcome board who id facts held verdict pair what sound at is)

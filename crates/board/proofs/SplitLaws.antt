@@ -1,5 +1,5 @@
 -- The children of the branches that were split.
-use Rattle.std.proofs.Common.{◌≡◌, ℕ, zero, suc, ◌+◌, ◌-◌, ◌<◌, ◌≤◌, List, [], ◌∷◌, length, ◌⊎◌, inl, inr, refl, ap, sym, ◌∙◌, subst, arith, length-append}
+use Rattle.std.proofs.Common.{◌≡◌, ℕ, zero, suc, ◌+◌, ◌-◌, ◌<◌, ◌≤◌, List, [], ◌∷◌, length, Some, ◌⊎◌, inl, inr, refl, ap, sym, ◌∙◌, subst, arith, length-append}
 use Rattle.std.specs.Prelude.{slice_index_or}
 use Rattle.std.proofs.lemmas.Bool.{cases_eq, cases_lt}
 use Rattle.std.proofs.lemmas.List.{get_or_push}
@@ -12,9 +12,10 @@ use Rattle.board.specs.declared.entries.Entry.{Entry}
 use Rattle.board.specs.declared.entries.Entry.TheVariants as entries
 use Rattle.board.specs.declared.entries.Settled.{Settled}
 use Rattle.board.specs.declared.entries.Settled.TheVariants as settled
+use Rattle.board.specs.declared.standings.Standing.{Standing}
 use Rattle.board.specs.declared.standings.Standing.TheVariants.{Waiting, Held, Done}
-use Rattle.board.specs.Boards.{BoardView, board_state}
-use Rattle.board.specs.Facts.{AreFacts, AreSound}
+use Rattle.board.specs.Boards.{BoardView, board_state, verdict_of}
+use Rattle.board.specs.Facts.{AreFacts, AreSound, HasBranchPair, IsKeptAt, IsSettledBy}
 use Rattle.board.specs.Histories.{State, opened, after, replayed, state_of, branch_count, choices_of, standing_of, children_of, standings_opened, Fits, AllFit, IsLegal, HasChildren}
 use Rattle.board.proofs.AfterLemmas.{claimed_count, claimed_other, claimed_same, choices_before, choices_behind, held_open, open_below, settled_count, standing_behind, standing_other, standing_same, waiting_open}
 use Rattle.board.proofs.Covering.{child_is}
@@ -154,3 +155,15 @@ splits_name_a_pair objective Backs board id first s t facts below done side few 
     last_fits board.shape (choices_of (board_state board) id) s t side
     (subst (λ (l : List Choice). AreSound board.shape l) (children.choices side few)
     (facts.choices (first + side) (omega (arith, within, few))))
+
+-- and it is the branch pair at the places of the least key that the board keeps for it
+pub splits_at_branch_pair : {P : Type 0} (objective : Objective) (Backs : Shape → List Choice → P → Verdict P → Type 0)
+    (board : BoardView P) (id first s t : ℕ) (verdict : Verdict P) → AreFacts objective Backs board → id < branch_count (board_state board) →
+    standing_of (board_state board) id ≡ Done (settled.Split first s t) → verdict_of board id ≡ Some verdict →
+    HasBranchPair board.shape (choices_of (board_state board) id) verdict s t
+splits_at_branch_pair {P = P} objective Backs board id first s t verdict facts below done is =
+    let by : IsSettledBy objective Backs board id (settled.Split first s t) =
+    subst (λ (standing : Standing). IsKeptAt objective Backs board id standing) done (facts.kept.each id below) in
+    let both : Some by.verdict ≡ Some verdict = sym by.kept ∙ is in
+    let same : by.verdict ≡ verdict = cc in
+    subst (λ (v : Verdict P). HasBranchPair board.shape (choices_of (board_state board) id) v s t) same by.splits

@@ -8,6 +8,7 @@ use Rattle.compact_types.specs.Bests.{Objective}
 use Rattle.bars.specs.Solutions.{IsSound}
 use Rattle.shape_graphs.specs.declared.measure.Verdict.{Verdict}
 use Rattle.shape_graphs.specs.declared.measure.Verdict.TheVariants.{Cyclic, Above, Least}
+use Rattle.shape_graphs.specs.Measures.{MatchVerdict}
 use Rattle.board.specs.declared.entries.Entry.{Entry}
 use Rattle.board.specs.declared.entries.Entry.TheVariants as entries
 use Rattle.board.specs.declared.entries.Settled.{Settled}
@@ -138,6 +139,17 @@ settling_first {P = P} objective Backs board who id verdict first s t settling =
     by_verdict (Least key proof) None (inr after) = let e = after.1 in cc
     by_verdict (Least key proof) (Some pair) (inl before) = let e = before.1 in cc
     by_verdict (Least key proof) (Some pair) (inr after) = let e = after.1 in cc
+
+-- a least key alone improves the incumbent
+pub improved_by_least : {P : Type 0} (objective : Objective) (Backs : Shape → List Choice → P → Verdict P → Type 0)
+    (board : BoardView P) (who id : ℕ) (verdict : Verdict P) → IsSettling objective Backs board who id verdict outcomes.Improved →
+    MatchVerdict verdict ⊥ ⊥ (Unit {0})
+improved_by_least {P = P} objective Backs board who id verdict settling = by_verdict verdict settling.pair settling.outcome
+  where
+    by_verdict : (verdict : Verdict P) (pair : Option (ℕ × ℕ)) → IsOutcome board verdict pair outcomes.Improved → MatchVerdict verdict ⊥ ⊥ (Unit {0})
+    by_verdict (Cyclic axis cycle) pair outcome = cc
+    by_verdict (Above bound stop proof) pair outcome = cc
+    by_verdict (Least key proof) pair outcome = tt
 
 -- a verdict is kept exactly where the branch is settled
 pub verdict_settled : {P : Type 0} (objective : Objective) (Backs : Shape → List Choice → P → Verdict P → Type 0)

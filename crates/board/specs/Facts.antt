@@ -10,6 +10,7 @@ use Rattle.compact_types.specs.Orders.{IsBefore}
 use Rattle.bars.specs.Solutions.{IsSound, Fit, Solves, choice_at}
 use Rattle.shape_graphs.specs.declared.measure.Verdict.{Verdict}
 use Rattle.shape_graphs.specs.declared.measure.Verdict.TheVariants.{Cyclic, Above, Least}
+use Rattle.separation.specs.Branching.{IsBranchPair}
 use Rattle.board.specs.declared.entries.Entry.{Entry}
 use Rattle.board.specs.declared.entries.Settled.{Settled}
 use Rattle.board.specs.declared.entries.Settled.TheVariants.{Split, Closed, Improved}
@@ -74,8 +75,21 @@ LeadsTo incumbent (Cyclic axis cycle) what = what ≡ Closed
 LeadsTo incumbent (Above bound stop proof) what = what ≡ Closed
 LeadsTo incumbent (Least key proof) what = IsSplit what ⊎ (IsBefore key incumbent → ⊥)
 
+-- the verdict is a least key, and the pair is the branch pair at its places
+abbrev pub HasBranchPair : {P : Type 0} → Shape → List Choice → Verdict P → ℕ → ℕ → Type 0
+HasBranchPair shape choices (Cyclic axis cycle) s t = ⊥
+HasBranchPair shape choices (Above bound stop proof) s t = ⊥
+HasBranchPair shape choices (Least key proof) s t = IsBranchPair shape choices key.places s t
+
+-- if the outcome is a split, the verdict has its pair as the branch pair
+abbrev pub SplitsAtBranchPair : {P : Type 0} → Shape → List Choice → Verdict P → Settled → Type 0
+SplitsAtBranchPair shape choices verdict (Split first s t) =
+    HasBranchPair shape choices verdict s t
+SplitsAtBranchPair shape choices verdict Closed = Unit {0}
+SplitsAtBranchPair shape choices verdict Improved = Unit {0}
+
 -- the board keeps the verdict that settled the branch with this outcome: it is sound for the
--- choices of the branch, and leads to the outcome
+-- choices of the branch, leads to the outcome, and gives the pair of a split
 pub record IsSettledBy {P : Type 0} (objective : Objective)
     (Backs : Shape → List Choice → P → Verdict P → Type 0)
     (board : BoardView P) (id : ℕ) (what : Settled) : Type 0 where
@@ -83,6 +97,7 @@ pub record IsSettledBy {P : Type 0} (objective : Objective)
   pub kept : verdict_of board id ≡ Some verdict
   pub sound : IsSoundVerdict objective Backs board.shape (choices_of (board_state board) id) verdict
   pub leads : LeadsTo board.incumbent verdict what
+  pub splits : SplitsAtBranchPair board.shape (choices_of (board_state board) id) verdict what
 
 -- what the board keeps of a branch that stands so: its verdict where it is settled, and else none
 abbrev pub IsKeptAt : {P : Type 0} → Objective →

@@ -1,5 +1,5 @@
 -- What has been done with the branches of a search, entry by entry.
-use Rattle.std.specs.Prelude.{◌≡◌, ℕ, ◌+◌, ◌<◌, ◌≤◌, Bool, true, false, IsTrue, List, [], ◌∷◌, ◌++◌, length, slice_index_or, slice_set, count_by}
+use Rattle.std.specs.Prelude.{◌≡◌, ◌⊎◌, ℕ, ◌+◌, ◌<◌, ◌≤◌, Bool, true, false, IsTrue, List, [], ◌∷◌, ◌++◌, length, slice_index_or, slice_set, count_by}
 use Rattle.compact_types.specs.declared.search.Branch.{Branch}
 use Rattle.compact_types.specs.declared.search.Choice.{Choice}
 use Rattle.bars.specs.Solutions.{with_choice}
@@ -87,6 +87,19 @@ pub record IsOpenedFrom (state : State) (parent id : ℕ) : Type 0 where
   pub before : parent < id
   pub choice : Choice
   pub choices : choices_of state id ≡ choices_of state parent ++ choice ∷ []
+
+-- the first branch was split, and the second is one of its four children
+pub record IsChildOf (state : State) (parent id : ℕ) : Type 0 where
+  pub first : ℕ
+  pub s : ℕ
+  pub t : ℕ
+  pub split : standing_of state parent ≡ Done (settled.Split first s t)
+  pub from_first : first ≤ id
+  pub to_fourth : id < first + 4
+
+-- the branch was opened from no other: it is branch 0, or there is none of this number
+abbrev pub HasNoParent : State → ℕ → Type 0
+HasNoParent state id = (id ≡ 0) ⊎ (branch_count state ≤ id)
 
 -- four branches that wait
 abbrev pub four_waiting : List Standing

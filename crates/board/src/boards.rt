@@ -1,15 +1,16 @@
 //! The board of a search.
 
-ghost use Rattle.std.specs.Prelude.{◌≡◌, ◌↔◌, ◌+◌, ◌<◌};
+ghost use Rattle.std.specs.Prelude.{◌≡◌, ◌↔◌, ◌+◌, ◌<◌, ◌^◌, ℕ};
 ghost use Rattle.std.specs.Prelude.{IfOk, IsSome, IsTrue, MatchOption, MatchResult};
 ghost use Rattle.std.specs.Option.{option_copied};
 ghost use Rattle.board.specs.declared.entries.SettleFault.TheVariants as faults;
+ghost use Rattle.board.specs.declared.entries.Settled.TheVariants as outcomes;
 ghost use Rattle.board.specs.declared.standings.Standing.TheVariants as stand;
 ghost use Rattle.board.specs.Boards.{BoardView, IsCaller, IsClaimAnswer, IsLatestWaiting};
 ghost use Rattle.board.specs.Boards.{IsOutcome, NoneWaits, after_claim, after_settle};
 ghost use Rattle.board.specs.Boards.{board_state, enlisted, opened_board, verdict_of};
 ghost use Rattle.board.specs.Facts.{AreFacts, IsDrawnKey};
-ghost use Rattle.board.specs.Histories.{IsHeldBy, IsOutcomeOf, IsSettled, IsWaiting};
+ghost use Rattle.board.specs.Histories.{HasNoParent, IsHeldBy, IsOutcomeOf, IsSettled, IsWaiting};
 ghost use Rattle.board.specs.Histories.{branch_count, choices_of, open_count_of};
 ghost use Rattle.board.specs.Verdicts.{IsPairFor, IsSoundVerdict};
 ghost use Rattle.shape_graphs.specs.Measures.{BacksBefore};
@@ -132,7 +133,8 @@ impl<P: Backing> Board<P> {
 
     /// Settles the branch that the caller holds by a verdict on its choices. A cycle or a bound
     /// closes it. A least key closes it too, unless it comes before the incumbent: then the key of
-    /// a drawing becomes the incumbent, and for other places the branch is split at the pair.
+    /// a drawing becomes the incumbent, and for other places the branch is split at the pair, which
+    /// is the branch pair at the key.
     pub fn settle(
         &mut self,
         who: u32,
@@ -145,7 +147,8 @@ impl<P: Backing> Board<P> {
             IsSoundVerdict P.objective P.backs self.old.shape
             (choices_of (board_state self.old) id) verdict }
         requires pair { id < branch_count (board_state self.old) →
-            IsPairFor self.old.shape verdict pair }
+            IsPairFor self.old.shape (choices_of (board_state self.old) id) self.old.incumbent
+            verdict pair }
         ensures answer { MatchResult result
             (λ what. IsOutcome self.old verdict pair what
             × (self.new ≡ after_settle self.old who id verdict what))
@@ -198,22 +201,25 @@ impl<P: Backing> Board<P> {
         }
     }
 
-    /// How the branch was settled; `None` exactly where no branch of this number is settled. It
-    /// takes no memory.
+    /// How the branch was settled; `None` exactly if no branch of this number is settled. The
+    /// numbers of the four children of a split fit in a u64. It takes no memory.
     pub fn outcome(&self, id: u64) -> Option<Settled>
         ensures outcome { MatchOption result
             (IsSettled (board_state self.now) id → ⊥)
             (IsOutcomeOf (board_state self.now) id) }
+        ensures children_fit { (first s t : ℕ) → result ≡ Some (outcomes.Split first s t) →
+            first + 3 < 2 ^ 64 }
         ensures facts { AreFacts P.objective P.backs self.now }
     {
         self.branches.outcome(id)
     }
 
-    /// The proof of the verdict on the branch from which this one was opened, where it has one. It
-    /// is a proof on the choices without the last, so a solver may begin with it. It takes no
-    /// memory.
+    /// The proof of the verdict on the branch from which this one was opened; `None` exactly for
+    /// branch 0 and for a number that no branch has. It is a proof on the choices without the last,
+    /// so a solver may begin with it. It takes no memory.
     pub fn proof_before(&self, id: u64) -> Option<&P>
-        ensures proof { MatchOption result (Unit {0}) (λ proof. BacksBefore
+        ensures proof { MatchOption result (HasNoParent (board_state self.now) id)
+            (λ proof. BacksBefore
             (P.backs self.now.shape) (choices_of (board_state self.now) id) proof.now) }
     {
         let Some(parent) = self.branches.parent(id) else {
@@ -221,7 +227,9 @@ impl<P: Backing> Board<P> {
         };
         match self.verdict(parent) {
             Some(Verdict::Least { proof, .. }) => Some(proof),
-            Some(Verdict::Cyclic { .. } | Verdict::Above { .. }) | None => None,
+            Some(Verdict::Cyclic { .. }) => unreachable!(),
+            Some(Verdict::Above { .. }) => unreachable!(),
+            None => unreachable!(),
         }
     }
 

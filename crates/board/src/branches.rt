@@ -8,8 +8,8 @@ ghost use Rattle.board.specs.declared.entries.Settled.TheVariants as outcomes;
 ghost use Rattle.board.specs.declared.standings.Standing.TheVariants as stand;
 ghost use Rattle.board.specs.Boards.{IsLatestWaiting, NoneWaits};
 ghost use Rattle.board.specs.Histories as histories;
-ghost use Rattle.board.specs.Histories.{IsHeldBy, IsKnown, IsOpenedFrom, IsOutcomeOf, IsSettled};
-ghost use Rattle.board.specs.Histories.{IsWaiting};
+ghost use Rattle.board.specs.Histories.{HasNoParent, IsHeldBy, IsKnown, IsOpenedFrom, IsOutcomeOf};
+ghost use Rattle.board.specs.Histories.{IsSettled, IsWaiting};
 ghost use Rattle.board.specs.Histories.{after, branch_count, four_waiting, open_count_of, opened};
 ghost use Rattle.board.specs.inner.Stacks.{HoldWaiting, IsStack};
 ghost use Rattle.board.specs.inner.Tables.{IsLeaf};
@@ -92,9 +92,11 @@ impl Branches {
         }
     }
 
-    /// How the branch was settled; `None` exactly where no branch of this number is settled.
+    /// How the branch was settled; `None` exactly if no branch of this number is settled. Branches
+    /// are counted by a u64.
     pub(crate) fn outcome(&self, id: u64) -> Option<Settled>
-        ensures { MatchOption result (IsSettled self.now id → ⊥) (IsOutcomeOf self.now id) }
+        ensures outcome { MatchOption result (IsSettled self.now id → ⊥) (IsOutcomeOf self.now id) }
+        ensures few { branch_count self.now < 2 ^ 64 }
     {
         if id >= self.count() {
             return None;
@@ -105,9 +107,11 @@ impl Branches {
         }
     }
 
-    /// The branch from which this one was opened; `None` where there is none.
+    /// The branch from which this one was opened; `None` exactly for branch 0 and for a number that
+    /// no branch has.
     pub(crate) fn parent(&self, id: u64) -> Option<u64>
-        ensures { MatchOption result (Unit {0}) (λ parent. IsOpenedFrom self.now parent id) }
+        ensures { MatchOption result (HasNoParent self.now id)
+            (λ parent. IsOpenedFrom self.now parent id) }
     {
         if id >= self.count() {
             return None;

@@ -101,10 +101,11 @@ impl Chains {
         Ok(Items::from_vec(choices))
     }
 
-    /// One step up from a branch to its parent; `None` for branch 0, which has no choices.
+    /// One step up from a branch to its parent; `None` exactly for branch 0, which has no choices.
     pub(crate) fn step_up(&self, id: u64) -> Option<Step>
         requires { id < length self.now }
-        ensures { MatchOption result (chain_at self.now id ≡ []) (IsStep self.now id) }
+        ensures { MatchOption result ((id ≡ 0) × (chain_at self.now id ≡ []))
+            (IsStep self.now id) }
     {
         if id == 0 {
             let _forks = &self.forks;

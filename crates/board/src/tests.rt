@@ -137,6 +137,8 @@ fn is_shared_by_two_callers(rt: HostRuntime) -> Result<(), Fail> {
     assert!(rt; board.verdict(0).is_some());
     assert_eq!(rt; board.outcome(0), Some(what));
     assert_eq!(rt; board.outcome(1), None);
+    assert!(rt; board.proof_before(0).is_none());
+    assert!(rt; board.proof_before(1).is_none());
     assert_eq!(rt; board.best().worth, 0);
     let (who, id) = (1, 0);
     let settled = Entry::Settled { who, id, what };

@@ -51,7 +51,7 @@ pub record IsSettling {P : Type 0} (objective : Objective)
   pub held : IsHeldBy (board_state board) id who
   pub sound : IsSoundVerdict objective Backs board.shape (choices_of (board_state board) id) verdict
   pub pair : Option (ℕ × ℕ)
-  pub pair_for : IsPairFor board.shape verdict pair
+  pub pair_for : IsPairFor board.shape (choices_of (board_state board) id) board.incumbent verdict pair
   pub outcome : IsOutcome board verdict pair what
 
 -- the places of a least key are as many as the vertices of the shape

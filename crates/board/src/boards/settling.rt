@@ -2,7 +2,9 @@
 
 ghost use Rattle.std.specs.Prelude.{◌≡◌, ◌↔◌, ◌+◌, ◌<◌, ◌≤◌, [], ◌∷◌, ◌++◌, length};
 ghost use Rattle.std.specs.Prelude.{IfOk, IsTrue, OnErr, OnOk, vec_capacity, vec_len};
+ghost use Rattle.compact_types.specs.declared.places.Key.{Key as AnyKey};
 ghost use Rattle.compact_types.specs.Orders.{IsBefore};
+ghost use Rattle.shape_graphs.specs.Measures.{MatchVerdict};
 ghost use Rattle.board.specs.declared.entries.Entry.TheVariants as entry;
 ghost use Rattle.board.specs.declared.entries.Settled.TheVariants as outcomes;
 ghost use Rattle.board.specs.Boards.{IsOutcome, after_settle, incumbent_after};
@@ -85,23 +87,12 @@ impl<P: Backing> Board<P> {
         ensures err { OnErr result (self.new ≡ self.old) }
     {
         let what = Settled::Improved;
-        let key = self.key_after(&verdict)?;
+        let key = improving_key(&verdict)?;
         self.incumbent = key;
         self.branches.finish(who, id, what);
         self.verdicts[id as usize] = Some(verdict);
         push_settled(&mut self.entries, who, id, what);
         Ok(())
-    }
-
-    /// A copy of the key of the verdict, or of the incumbent where it has none.
-    fn key_after(&self, verdict: &Verdict<P>) -> Result<Key, NoMemory>
-        ensures { IfOk result (λ key.
-            key ≡ incumbent_after self.now.incumbent verdict.now outcomes.Improved) }
-    {
-        match verdict {
-            Verdict::Least { key, .. } => key.copy(),
-            Verdict::Cyclic { .. } | Verdict::Above { .. } => self.incumbent.copy(),
-        }
     }
 
     /// Splits the branch at the pair: its four children, from the number `first` on, wait.
@@ -130,6 +121,19 @@ impl<P: Backing> Board<P> {
         self.verdicts[id as usize] = Some(verdict);
         push_settled(&mut self.entries, who, id, what);
         Ok(())
+    }
+}
+
+/// A copy of the key of a verdict that improves the incumbent: a least key alone does.
+fn improving_key<P: Backing>(verdict: &Verdict<P>) -> Result<Key, NoMemory>
+    requires { MatchVerdict verdict.now ⊥ ⊥ (Unit {0}) }
+    ensures { (before : AnyKey) → IfOk result (λ key.
+        key ≡ incumbent_after before verdict.now outcomes.Improved) }
+{
+    match verdict {
+        Verdict::Least { key, .. } => key.copy(),
+        Verdict::Cyclic { .. } => unreachable!(),
+        Verdict::Above { .. } => unreachable!(),
     }
 }
 

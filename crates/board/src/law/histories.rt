@@ -15,9 +15,11 @@ ghost use Rattle.board.specs.Histories.{
   choices_of,
   Fits,
   HasChildren,
+  IsChildOf,
   IsHeldBy,
   IsLegal,
   IsOpen,
+  IsOpenedFrom,
   IsSettled,
   open_count_of,
   replayed,
@@ -84,6 +86,19 @@ pub fn splits_have_children()
         id < branch_count (state_of history) →
         standing_of (state_of history) id ≡ Done (Split first s t) →
         HasChildren (state_of history) id first s t }
+{}
+
+/// No two branches have the same choices. A branch from which another was opened was split, and the
+/// other is one of its four children; each branch but the first was opened so.
+pub fn branches_differ()
+    ensures choices { (history : List Entry) (a b : ℕ) → IsLegal history →
+        a < branch_count (state_of history) → b < branch_count (state_of history) →
+        choices_of (state_of history) a ≡ choices_of (state_of history) b → a ≡ b }
+    ensures child { (history : List Entry) (parent id : ℕ) → IsLegal history →
+        IsOpenedFrom (state_of history) parent id → IsChildOf (state_of history) parent id }
+    ensures parent { (history : List Entry) (id : ℕ) → IsLegal history →
+        0 < id → id < branch_count (state_of history) →
+        (parent : ℕ) × IsChildOf (state_of history) parent id }
 {}
 
 /// Without an open branch the history tells of each branch that it was claimed once and then

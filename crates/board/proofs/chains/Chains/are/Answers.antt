@@ -4,5 +4,5 @@ use Rattle.board.proofs.chains.Chains.are.Goals as goal
 
 pub returns : goal.returns
 returns c =
-    let ends = walk_end _ _ _ _ _ c.loop-step.invariant c.in_default.ensures in
+    let ends = walk_end _ _ _ _ _ c.loop-step.invariant c.in_default.ensures.1 in
     ((λ zero. ends.1 (eqb-true _ _ zero)), (λ same. eq-eqb _ _ (ends.0 same)))

@@ -4,7 +4,7 @@ use Rattle.board.proofs.ChainLemmas.{any_default, root_empty, fork_below, step_i
 use Rattle.board.proofs.chains.Chains.step_up.Goals as goal
 
 pub returns-then-id-eq0 : goal.returns-then-id-eq0
-returns-then-id-eq0 c = rw (← c.self.view_is, c.if-id-eq0.true) (root_empty c.self.inside.forks.items)
+returns-then-id-eq0 c = (c.if-id-eq0.true, rw (← c.self.view_is, c.if-id-eq0.true) (root_empty c.self.inside.forks.items))
 
 pub index-fork-requires : goal.index-fork-requires
 index-fork-requires c =
