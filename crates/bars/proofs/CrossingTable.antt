@@ -4,10 +4,10 @@ use Rattle.std.specs.List.{list_any, range_with_len}
 use Rattle.std.proofs.Math.ListN.{length-set}
 use Rattle.std.proofs.Math.Nat.{suc-mul}
 use Rattle.std.proofs.lemmas.Nat.{mul-le}
-use Rattle.std.proofs.lemmas.Bool.{cases_eq, cases_lt, eq-eqb, ne_eqb}
+use Rattle.std.proofs.lemmas.Bool.{and_from, and_left, and_right, cases_eq, cases_lt, eq-eqb, ne_eqb, or_right}
 use Rattle.bars.specs.declared.lines.Lines.{Lines}
 use Rattle.bars.specs.inner.Crossings.{AreCrossings}
-use Rattle.bars.proofs.MarkTables.{any_one_more, or_false, or_true, and_both, and_first, and_second}
+use Rattle.bars.proofs.MarkTables.{any_one_more, or_false}
 
 -- the place in a table of so many columns
 abbrev pub at : ℕ → ℕ → ℕ → ℕ
@@ -62,7 +62,7 @@ crossing_more rows columns n row column across table more is_across is_row is_co
         (sym (ap (λ (x : ℕ). x * columns.count + c) same_row) ∙ sym (ap (λ (x : ℕ). row * columns.count + x) same_column))
         ∙ get_or-set_same table (at columns.count row column) true false (omega (arith, below, are.size))
         ∙ sym (any_one_more (λ v. (slice_index rows.of.items v == r) && (slice_index columns.of.items v == c)) n
-        ∙ or_true _ _ (and_both _ _ (eq-eqb _ _ (sym is_row ∙ same_row)) (eq-eqb _ _ (sym is_column ∙ same_column))))
+        ∙ or_right _ _ (and_from _ _ (eq-eqb _ _ (sym is_row ∙ same_row)) (eq-eqb _ _ (sym is_column ∙ same_column))))
 
     elsewhere : (r c : ℕ) → r < rows.count → c < columns.count → ((r * columns.count + c ≡ at columns.count row column) → ⊥) →
         ((slice_index rows.of.items n == r) && (slice_index columns.of.items n == c)) ≡ false → slice_index_or more (r * columns.count + c) false
@@ -79,7 +79,7 @@ crossing_more rows columns n row column across table more is_across is_row is_co
     each r c r_within c_within (inl same_row) (inl same_column) = here r c same_row same_column
     each r c r_within c_within (inr other) same_column =
         elsewhere r c r_within c_within (λ same. other (sym (at_apart columns.count r c row column c_within column_within same).0))
-        (and_first _ _ (ne_eqb _ _ (λ same. other (is_row ∙ same))))
+        (and_left _ _ (ne_eqb _ _ (λ same. other (is_row ∙ same))))
     each r c r_within c_within (inl same_row) (inr other) =
         elsewhere r c r_within c_within (λ same. other (sym (at_apart columns.count r c row column c_within column_within same).1))
-        (and_second _ _ (ne_eqb _ _ (λ same. other (is_column ∙ same))))
+        (and_right _ _ (ne_eqb _ _ (λ same. other (is_column ∙ same))))

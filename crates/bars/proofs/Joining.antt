@@ -6,10 +6,11 @@ use Rattle.compact_types.specs.declared.places.Axis.TheVariants.{X, Y}
 use Rattle.compact_types.specs.declared.plan.Plan.{Plan}
 use Rattle.compact_types.specs.declared.plan.Piece.{Piece}
 use Rattle.compact_types.specs.declared.plan.Shape.{Shape}
+use Rattle.compact_types.specs.Groups.{merged}
 use Rattle.compact_types.specs.Lookups.{piece_at}
 use Rattle.compact_types.specs.Connected.{AreJoined, IsAlong, AreInLine}
 use Rattle.compact_types.specs.Connected.AreJoined.{start, forward, backward}
-use Rattle.bars.specs.Lines.{is_axis, is_along, joined, least_by, least_in_line}
+use Rattle.bars.specs.Lines.{is_axis, is_along, least_by, least_in_line}
 
 -- joined vertices through a third
 pub joined_through : (plan : Plan) (MayUse : ℕ → Type 0) (u v w : ℕ) →
@@ -39,15 +40,15 @@ is_axis_other X Y is same = cc
 is_axis_other Y X is same = cc
 is_axis_other Y Y is same = let e : true ≡ false = is in cc
 
--- what a joining piece leaves at v
-joined_is : (least : ℕ → ℕ) (piece : Piece) (v : ℕ) →
-    ((least v ≡ max (least piece.from) (least piece.to)) × (joined least piece v ≡ min (least piece.from) (least piece.to))) ⊎
-    ((least v ≡ max (least piece.from) (least piece.to) → ⊥) × (joined least piece v ≡ least v))
-joined_is least piece v = by_case (cases_eq (least v) (max (least piece.from) (least piece.to)))
+-- what a piece that joins two lines leaves at v
+merged_is : (least : ℕ → ℕ) (piece : Piece) (v : ℕ) →
+    ((least v ≡ max (least piece.from) (least piece.to)) × (merged least piece.from piece.to v ≡ min (least piece.from) (least piece.to))) ⊎
+    ((least v ≡ max (least piece.from) (least piece.to) → ⊥) × (merged least piece.from piece.to v ≡ least v))
+merged_is least piece v = by_case (cases_eq (least v) (max (least piece.from) (least piece.to)))
   where
     by_case : (least v ≡ max (least piece.from) (least piece.to)) ⊎ (least v ≡ max (least piece.from) (least piece.to) → ⊥) →
-        ((least v ≡ max (least piece.from) (least piece.to)) × (joined least piece v ≡ min (least piece.from) (least piece.to))) ⊎
-        ((least v ≡ max (least piece.from) (least piece.to) → ⊥) × (joined least piece v ≡ least v))
+        ((least v ≡ max (least piece.from) (least piece.to)) × (merged least piece.from piece.to v ≡ min (least piece.from) (least piece.to))) ⊎
+        ((least v ≡ max (least piece.from) (least piece.to) → ⊥) × (merged least piece.from piece.to v ≡ least v))
     by_case (inl same) = inl (same, cond-true _ _ _ (eq-eqb _ _ same))
     by_case (inr other) = inr (other, cond-false _ _ _ (ne_eqb _ _ other))
 
@@ -118,7 +119,7 @@ module _ (axis : Axis) (shape : Shape) where
           by_order (inr is) = ap least is.1 ∙ are.own the_piece.from ∙ sym is.1
 
       abbrev after : ℕ → ℕ
-      after v = joined least the_piece v
+      after v = merged least the_piece.from the_piece.to v
 
       abbrev After : ℕ → Type 0
       After v = ((least v ≡ greater) × (after v ≡ lesser)) ⊎ ((least v ≡ greater → ⊥) × (after v ≡ least v))
@@ -129,9 +130,9 @@ module _ (axis : Axis) (shape : Shape) where
 
       joined_least : AreLeast axis shape (suc n) after
       joined_least = record {
-        below = λ v. below_at v (joined_is least the_piece v);
-        own = λ v. own_at v (joined_is least the_piece v);
-        in_line = λ v. in_line_at v (joined_is least the_piece v);
+        below = λ v. below_at v (merged_is least the_piece v);
+        own = λ v. own_at v (merged_is least the_piece v);
+        in_line = λ v. in_line_at v (merged_is least the_piece v);
         same = λ i within goes. same_at i (cases_lt i n) within goes;
       }
         where
@@ -140,8 +141,8 @@ module _ (axis : Axis) (shape : Shape) where
           below_at v (inr is) = let below = are.below v in omega (arith, is.1, below)
 
           own_at : (v : ℕ) → After v → after (after v) ≡ after v
-          own_at v (inl is) = ap after is.1 ∙ after_at_lesser (joined_is least the_piece lesser) ∙ sym is.1
-          own_at v (inr is) = ap after is.1 ∙ again (joined_is least the_piece (least v)) ∙ sym is.1
+          own_at v (inl is) = ap after is.1 ∙ after_at_lesser (merged_is least the_piece lesser) ∙ sym is.1
+          own_at v (inr is) = ap after is.1 ∙ again (merged_is least the_piece (least v)) ∙ sym is.1
             where
               again : After (least v) → after (least v) ≡ least v
               again (inl next) = absurd (is.0 (sym (are.own v) ∙ next.0))
@@ -162,11 +163,11 @@ module _ (axis : Axis) (shape : Shape) where
           same_at i (inr later) within goes =
               let here : n ≡ i = omega arith in
               subst (λ (k : ℕ). after (piece_at shape.plan.pieces k).from ≡ after (piece_at shape.plan.pieces k).to) here
-              (end_at the_piece.from (inl refl) (joined_is least the_piece the_piece.from) ∙
-              sym (end_at the_piece.to (inr refl) (joined_is least the_piece the_piece.to)))
+              (end_at the_piece.from (inl refl) (merged_is least the_piece the_piece.from) ∙
+              sym (end_at the_piece.to (inr refl) (merged_is least the_piece the_piece.to)))
 
   abbrev one_more : ℕ → Bool → ℕ → ℕ
-  one_more n along v = if along then joined (least_by axis shape n) (piece_at shape.plan.pieces n) v else least_by axis shape n v
+  one_more n along v = if along then merged (least_by axis shape n) (piece_at shape.plan.pieces n).from (piece_at shape.plan.pieces n).to v else least_by axis shape n v
 
   least_after_one_more : (n : ℕ) → n < length shape.plan.pieces → AreLeast axis shape n (least_by axis shape n) →
       (along : Bool) → is_along axis shape n ≡ along → AreLeast axis shape (suc n) (one_more n (is_along axis shape n))

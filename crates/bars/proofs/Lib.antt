@@ -15,3 +15,4 @@ pub mod MarkTables
 pub mod CrossingTable
 pub mod SpanTable
 pub mod Sharing
+pub mod PointLemmas

@@ -3,7 +3,7 @@ use Rattle.std.proofs.Common.{◌≡◌, ℕ, zero, suc, ◌+◌, ◌<◌, ◌�
 use Rattle.std.specs.List.{find, list_any, range_with_len}
 use Rattle.std.specs.Option.{unwrap_or}
 use Rattle.std.proofs.Math.ListN.{length-set}
-use Rattle.std.proofs.lemmas.Bool.{cases_eq, cond-true, cond-false, eq-eqb, ne_eqb}
+use Rattle.std.proofs.lemmas.Bool.{and_from, and_left, and_right, cases_eq, cond-true, cond-false, eq-eqb, ne_eqb, or_right}
 use Rattle.compact_types.specs.declared.places.Axis.{Axis}
 use Rattle.compact_types.specs.declared.plan.Piece.{Piece}
 use Rattle.compact_types.specs.declared.plan.Shape.{Shape}
@@ -46,22 +46,6 @@ pub or_false : (x y : Bool) → y ≡ false → (x || y) ≡ x
 or_false true y none = refl
 or_false false y none = none
 
-pub or_true : (x y : Bool) → y ≡ true → (x || y) ≡ true
-or_true true y holds = refl
-or_true false y holds = holds
-
-pub and_both : (x y : Bool) → x ≡ true → y ≡ true → (x && y) ≡ true
-and_both true y first second = second
-and_both false y first second = first
-
-pub and_first : (x y : Bool) → x ≡ false → (x && y) ≡ false
-and_first false y none = refl
-and_first true y none = absurd (let e : true ≡ false = none in cc)
-
-pub and_second : (x y : Bool) → y ≡ false → (x && y) ≡ false
-and_second false y none = refl
-and_second true y none = none
-
 -- one piece more marks its number, where it is used
 pub marked_more : (is_used : ℕ → Bool) (at : ℕ → ℕ) (n : ℕ) (marks more : List Bool) (used : Bool) (number : ℕ) →
     used ≡ is_used n → number ≡ at n → number < length marks → more ≡ (if used then set marks number true else marks) →
@@ -74,17 +58,17 @@ marked_more is_used at n marks more true number is_true is_number inside is are 
         ap (λ (l : List Bool). slice_index_or l k false) is ∙ ap (λ (m : ℕ). slice_index_or (set marks number true) m false) same
         ∙ get_or-set_same marks number true false inside
         ∙ sym (any_one_more (λ i. is_used i && (at i == k)) n
-        ∙ or_true _ _ (and_both _ _ (sym is_true) (eq-eqb _ _ (sym is_number ∙ sym same))))
+        ∙ or_right _ _ (and_from _ _ (sym is_true) (eq-eqb _ _ (sym is_number ∙ sym same))))
     each k within (inr other) =
         ap (λ (l : List Bool). slice_index_or l k false) is ∙ get_or-set_other marks number k true false other
         ∙ are.each k (let fits : length more ≡ length marks = ap length is ∙ length-set marks number true in omega (arith, within, fits))
         ∙ sym (any_one_more (λ i. is_used i && (at i == k)) n
-        ∙ or_false _ _ (and_second _ _ (ne_eqb _ _ (λ same. other (sym same ∙ sym is_number)))))
+        ∙ or_false _ _ (and_right _ _ (ne_eqb _ _ (λ same. other (sym same ∙ sym is_number)))))
 marked_more is_used at n marks more false number is_false is_number inside is are = record {
   each = λ k within.
       ap (λ (l : List Bool). slice_index_or l k false) is
       ∙ are.each k (let fits : length more ≡ length marks = ap length is in omega (arith, within, fits))
-      ∙ sym (any_one_more (λ i. is_used i && (at i == k)) n ∙ or_false _ _ (and_first _ _ (sym is_false)));
+      ∙ sym (any_one_more (λ i. is_used i && (at i == k)) n ∙ or_false _ _ (and_left _ _ (sym is_false)));
 }
 
 -- at first nothing is marked
@@ -100,7 +84,7 @@ pub first_before : (lines : Lines) (marked : List Bool) (v n : ℕ) (found more 
 first_before lines marked v n found more line true are is_line inside is_true is = record {
   one_for_each = ap length is ∙ are.one_for_each;
   each = λ k within. ap (λ (l : List ℕ). slice_index l k) is ∙ are.each k within
-      ∙ sym (ap (λ (o : Option ℕ). unwrap_or o 0) (cond-false _ _ _ (and_second (slice_index lines.of.items v == k) _ (ap not (sym is_true)))));
+      ∙ sym (ap (λ (o : Option ℕ). unwrap_or o 0) (cond-false _ _ _ (and_right (slice_index lines.of.items v == k) _ (ap not (sym is_true)))));
 }
 first_before lines marked v n found more line false are is_line inside is_false is = record {
   one_for_each = ap length is ∙ length-set found line v ∙ are.one_for_each;
@@ -111,10 +95,10 @@ first_before lines marked v n found more line false are is_line inside is_false 
     each k within (inl same) =
         ap (λ (l : List ℕ). slice_index l k) is ∙ ap (λ (m : ℕ). slice_index (set found line v) m) same
         ∙ get_or-set_same found line v 0 (omega (arith, inside, are.one_for_each))
-        ∙ sym (ap (λ (o : Option ℕ). unwrap_or o 0) (cond-true _ _ _ (and_both _ _ (eq-eqb _ _ (sym is_line ∙ sym same)) (ap not (sym is_false)))))
+        ∙ sym (ap (λ (o : Option ℕ). unwrap_or o 0) (cond-true _ _ _ (and_from _ _ (eq-eqb _ _ (sym is_line ∙ sym same)) (ap not (sym is_false)))))
     each k within (inr other) =
         ap (λ (l : List ℕ). slice_index l k) is ∙ get_or-set_other found line k v 0 other ∙ are.each k within
-        ∙ sym (ap (λ (o : Option ℕ). unwrap_or o 0) (cond-false _ _ _ (and_first _ _ (ne_eqb _ _ (λ same. other (sym same ∙ sym is_line))))))
+        ∙ sym (ap (λ (o : Option ℕ). unwrap_or o 0) (cond-false _ _ _ (and_left _ _ (ne_eqb _ _ (λ same. other (sym same ∙ sym is_line))))))
 
 -- behind the last vertex none is found
 pub none_after : (lines : Lines) (marked : List Bool) (v : ℕ) (found : List ℕ) → length found ≡ lines.count →

@@ -1,9 +1,9 @@
 -- The spans of the segments, as they are added.
-use Rattle.std.proofs.Common.{◌≡◌, ℕ, zero, suc, ◌+◌, ◌-◌, ◌<◌, ◌≤◌, Bool, true, false, List, [], ◌∷◌, ◌++◌, map, length, slice_index, if◌then◌else◌, ◌⊎◌, inl, inr, sym, ap, refl, ◌∙◌, arith, append_assoc, append-nil, length-append}
+use Rattle.std.proofs.Common.{◌≡◌, ℕ, zero, suc, ◌+◌, ◌-◌, ◌<◌, ◌≤◌, Bool, true, false, List, [], ◌∷◌, ◌++◌, map, length, slice_index, if◌then◌else◌, ◌⊎◌, inl, inr, sym, ap, ◌∙◌, arith, append_assoc, append-nil, length-append}
 use Rattle.std.specs.List.{filter, find, range_with_len}
 use Rattle.std.specs.Option.{unwrap_or}
 use Rattle.std.proofs.lemmas.Bool.{cases_Bool, cond-true, cond-false}
-use Rattle.std.proofs.lemmas.List.{length-map, get_or-map, get_or-append_right, get_or_append_left}
+use Rattle.std.proofs.lemmas.List.{length-map, get_or-map, get_or-append_right, get_or_append_left, map-append}
 use Rattle.std.proofs.lemmas.List.Elements.{filter-append}
 use Rattle.compact_types.specs.declared.places.Axis.{Axis}
 use Rattle.compact_types.specs.declared.places.Axis.TheVariants.{X, Y}
@@ -17,19 +17,9 @@ use Rattle.bars.specs.Segments.{Segment, has_piece, first_vertex, last_vertex, s
 use Rattle.bars.specs.inner.Marks.{AreLineEnds}
 use Rattle.bars.specs.inner.Spans.{span_of, spans_below, spans_along, span_at, AreSpans}
 use Rattle.bars.specs.inner.Tables.{AreLines}
+use Rattle.compact_types.proofs.Laws.{range_push}
 use Rattle.bars.proofs.SegmentLists.{lines, IsNumbered, numbered, count_is}
 use Rattle.bars.proofs.SegmentLists.IsNumbered.{of_row, of_column}
-
--- one number more of a range
-range_more : (a n : ℕ) → range_with_len a (suc n) ≡ range_with_len a n ++ (a + n) ∷ []
-range_more a zero = let here : a ≡ a + 0 = omega arith in ap (λ (x : ℕ). x ∷ []) here
-range_more a (suc n) =
-    let next : a + 1 + n ≡ a + suc n = omega arith in
-    ap (λ (rest : List ℕ). a ∷ rest) (range_more (a + 1) n) ∙ ap (λ (x : ℕ). a ∷ (range_with_len (a + 1) n ++ x ∷ [])) next
-
-map-append : {A B : Type 0} (f : A → B) (xs ys : List A) → map f (xs ++ ys) ≡ map f xs ++ map f ys
-map-append f [] ys = refl
-map-append f (x ∷ xs) ys = ap (λ (rest : List _). f x ∷ rest) (map-append f xs ys)
 
 -- one line more, where it has a piece
 spans_more : (axis : Axis) (shape : Shape) (n : ℕ) (has : Bool) → has ≡ has_piece axis shape n →
@@ -40,7 +30,7 @@ spans_more axis shape n has is =
     let test = has_piece axis shape in
     let below = range_with_len 0 n in
     ap (λ (m : ℕ). spans_below axis shape m) next
-    ∙ ap (λ (l : List ℕ). map (span_of axis shape) (filter test l)) (range_more 0 n ∙ ap (λ (x : ℕ). below ++ x ∷ []) from)
+    ∙ ap (λ (l : List ℕ). map (span_of axis shape) (filter test l)) (range_push 0 n ∙ ap (λ (x : ℕ). below ++ x ∷ []) from)
     ∙ ap (map (span_of axis shape)) (filter-append test below (n ∷ []))
     ∙ map-append (span_of axis shape) (filter test below) (filter test (n ∷ []))
     ∙ by_test has (filter-one has is)

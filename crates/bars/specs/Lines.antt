@@ -1,10 +1,10 @@
 -- Rows and columns: vertices joined by pieces along an axis stand in one line along it. A row is a
 -- line along X, a column a line along Y.
-use Rattle.std.specs.Prelude.{ℕ, zero, suc, Bool, true, false, ◌==◌, min, max, length, if◌then◌else◌}
+use Rattle.std.specs.Prelude.{ℕ, zero, suc, Bool, true, false, ◌==◌, length, if◌then◌else◌}
 use Rattle.compact_types.specs.declared.places.Axis.{Axis}
 use Rattle.compact_types.specs.declared.places.Axis.TheVariants.{X, Y}
-use Rattle.compact_types.specs.declared.plan.Piece.{Piece}
 use Rattle.compact_types.specs.declared.plan.Shape.{Shape}
+use Rattle.compact_types.specs.Groups.{merged}
 use Rattle.compact_types.specs.Lookups.{piece_at, way_at, axis_of}
 
 abbrev pub is_axis : Axis → Axis → Bool
@@ -17,18 +17,13 @@ is_axis Y Y = true
 abbrev pub is_along : Axis → Shape → ℕ → Bool
 is_along axis shape i = is_axis (axis_of (way_at shape.ways i)) axis
 
--- the least vertex of each line once a piece joins the lines of its ends: of two lines that become
--- one, the lesser least vertex stays
-abbrev pub joined : (ℕ → ℕ) → Piece → ℕ → ℕ
-joined least piece v =
-    if least v == max (least piece.from) (least piece.to) then min (least piece.from) (least piece.to)
-    else least v
-
--- the least vertex that the first n pieces join with v along the axis
+-- the least vertex that the first n pieces join with v along the axis: a piece makes one line of the
+-- lines of its ends, whose least vertex is the lesser of theirs
 unfoldable pub least_by : Axis → Shape → ℕ → ℕ → ℕ
 least_by axis shape zero v = v
 least_by axis shape (suc n) v =
-    if is_along axis shape n then joined (least_by axis shape n) (piece_at shape.plan.pieces n) v
+    if is_along axis shape n
+    then merged (least_by axis shape n) (piece_at shape.plan.pieces n).from (piece_at shape.plan.pieces n).to v
     else least_by axis shape n v
 
 -- the least vertex in the line of v along the axis

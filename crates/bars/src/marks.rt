@@ -1,12 +1,11 @@
 //! Which lines have a piece, and which vertices stand at their ends.
 
 ghost use Rattle.std.specs.Prelude.{◌≡◌, ℕ, ◌<◌, length, slice_index, slice_set, true, IfOk, cond};
-ghost use Rattle.compact_types.specs.Axes as axes;
 ghost use Rattle.bars.specs.inner.Marks.{AreMarks, AreFirstUnmarked, AreLineEnds};
 ghost use Rattle.bars.specs.inner.Tables.{AreLines};
 
 use crate::lines::{Lines, goes_along};
-use compact_types::{Axis, NoMemory, Piece, Shape, Way};
+use compact_types::{Axis, NoMemory, Shape, high_end, low_end};
 use std::alloc::Global;
 
 /// Of each line along an axis: whether it has a piece, and its end vertices.
@@ -85,26 +84,6 @@ fn mark_if(marks: &mut [bool], number: u32, along: bool)
 {
     if along {
         marks[number as usize] = true;
-    }
-}
-
-/// The eastern or the higher end of a piece with this way.
-fn high_end(way: Way, piece: Piece) -> u32
-    ensures { result ≡ axes.high_end way piece }
-{
-    match way {
-        Way::East | Way::High => piece.to,
-        Way::West | Way::Low => piece.from,
-    }
-}
-
-/// The western or the lower end of a piece with this way.
-fn low_end(way: Way, piece: Piece) -> u32
-    ensures { result ≡ axes.low_end way piece }
-{
-    match way {
-        Way::East | Way::High => piece.from,
-        Way::West | Way::Low => piece.to,
     }
 }
 

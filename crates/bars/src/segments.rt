@@ -4,7 +4,9 @@ ghost use Rattle.std.specs.Prelude.{◌≡◌, ◌↔◌, ◌<◌, IfOk, IsTrue}
 ghost use Rattle.compact_types.specs.declared.places.Axis.TheVariants as axis;
 ghost use Rattle.bars.specs.Lines as numbering;
 ghost use Rattle.bars.specs.Lines.{is_axis, line_count};
-ghost use Rattle.bars.specs.Segments.{segment_at, segment_count, low_node, high_node, ShareVertex};
+ghost use Rattle.bars.specs.Segments as segments;
+ghost use Rattle.bars.specs.Segments.{segment_at, segment_count, low_node, high_node};
+ghost use Rattle.bars.specs.Segments.{ShareVertex, IsPair};
 ghost use Rattle.bars.specs.Solutions.{IsSound};
 ghost use Rattle.bars.specs.inner.Invariant.{do_cross};
 
@@ -91,6 +93,27 @@ impl Bars {
         self.columns.count
     }
 
+    /// How many nodes the constraint graph of the axis has: columns for X, rows for Y.
+    pub fn node_count(&self, axis: Axis) -> u32
+        ensures { result ≡ segments.node_count axis self.now }
+    {
+        match axis {
+            Axis::X => self.columns(),
+            Axis::Y => self.rows(),
+        }
+    }
+
+    /// The node of the vertex in the constraint graph of the axis: its column for X, its row for Y.
+    pub fn node_of(&self, axis: Axis, v: u32) -> u32
+        requires { v < self.now.plan.vertices }
+        ensures { result ≡ segments.node_of axis self.now v }
+    {
+        match axis {
+            Axis::X => self.column_of(v),
+            Axis::Y => self.row_of(v),
+        }
+    }
+
     /// How many segments there are.
     pub fn bars(&self) -> u32
         ensures { result ≡ segment_count self.now }
@@ -174,6 +197,13 @@ impl Bars {
         } else {
             self.cross(second, first)
         }
+    }
+
+    /// Whether these are two segments without a common vertex, in the order of their numbers.
+    pub fn is_pair(&self, s: u32, t: u32) -> bool
+        ensures { IsTrue result ↔ IsPair self.now s t }
+    {
+        s < t && t < self.bars() && !self.share_vertex(s, t)
     }
 
     /// Whether the segment is a row.

@@ -7,7 +7,7 @@ use Rattle.std.specs.Borrow.{Bor}
 use Rattle.std.proofs.lemmas.Bool.{cases_lt}
 use Rattle.std.proofs.lemmas.Bool.Decides.{nat_tests}
 use Rattle.std.proofs.lemmas.List.{append_assoc, drop_all, drop_at, length-take-le, take_at}
-use Rattle.gml_print.specs.declared.limits.TheConstants.{MOST_PITCH}
+use Rattle.compact_types.specs.declared.limits.TheConstants.{MOST_PITCH}
 use Rattle.cert_text.specs.Certificates.{HasNoHead, IsCutAtHead, IsCutAtLastHead, IsPitch}
 use Rattle.cert_text.specs.Texts.{head_line, head_start}
 use Rattle.cert_text.specs.inner.Reading.{after_byte, after_word, head_of, number_of}

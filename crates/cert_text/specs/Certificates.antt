@@ -1,6 +1,6 @@
 -- Where the certificate stands in a text, and which one it is.
 use Rattle.std.specs.Prelude.{◌≡◌, ◌⊎◌, ℕ, ◌≤◌, List, [], ◌∷◌, ◌++◌, length}
-use Rattle.gml_print.specs.declared.limits.TheConstants.{MOST_PITCH}
+use Rattle.compact_types.specs.declared.limits.TheConstants.{MOST_PITCH}
 use Rattle.cert_text.specs.declared.tree.CertNode.{CertNode}
 use Rattle.cert_text.specs.Loads.{IsCertTree}
 use Rattle.cert_text.specs.Texts.{head_start, certificate_text}

@@ -6,7 +6,7 @@ use Rattle.std.proofs.Math.Seq.{get_or-append_seam}
 use Rattle.std.proofs.lemmas.List.{get_or_append_left}
 use Rattle.std.proofs.lemmas.Bool.{cases_lt}
 use Rattle.std.proofs.lemmas.Int.{ints}
-use Rattle.compact_types.specs.declared.limits.TheConstants.{MOST_CHOICES}
+use Rattle.compact_types.specs.declared.limits.TheConstants.{GREATEST_PLACE, MOST_CHOICES, MOST_PITCH}
 use Rattle.compact_types.specs.declared.places.Axis.{Axis}
 use Rattle.compact_types.specs.declared.places.Axis.TheVariants.{X, Y}
 use Rattle.compact_types.specs.declared.places.Key.{Key}
@@ -33,7 +33,6 @@ use Rattle.gml_text.specs.declared.tree.Tree.{Tree}
 use Rattle.drawing_read.specs.declared.reading.Reading.{Reading}
 use Rattle.drawing_read.specs.Readings.{IsReading}
 use Rattle.drawing_check.specs.Shapes.{IsShapeOf}
-use Rattle.gml_print.specs.declared.limits.TheConstants.{GREATEST_PLACE, MOST_PITCH}
 use Rattle.gml_print.specs.Places.{CanPut}
 use Rattle.compact_main.proofs.Among.{IsLeastOfSome, NoneBefore, HasBest, best_of_fewer, best_of_both}
 use Rattle.compact_main.proofs.Decisions.{IsDecided}

@@ -2,7 +2,7 @@
 use Rattle.std.proofs.Common.{◌≡◌, ℕ, ◌≤◌, List, [], ◌∷◌, Result, Ok, Err, arith}
 use Rattle.std.specs.Prelude.{IfOk}
 use Rattle.std.proofs.lemmas.Int.{ints}
-use Rattle.compact_types.specs.declared.limits.TheConstants.{GREATEST_COORDINATE, MOST_CHOICES}
+use Rattle.compact_types.specs.declared.limits.TheConstants.{GREATEST_COORDINATE, GREATEST_PLACE, MOST_CHOICES}
 use Rattle.compact_types.specs.declared.places.Axis.TheVariants.{X, Y}
 use Rattle.compact_types.specs.declared.places.Places.{Places}
 use Rattle.compact_types.specs.declared.plan.Shape.{Shape}
@@ -10,7 +10,6 @@ use Rattle.compact_types.specs.Bests.{total_length, IsBest}
 use Rattle.compact_types.specs.Lengths.{length_of}
 use Rattle.compact_types.specs.Magnitudes.{AreWithin}
 use Rattle.drawing_check.specs.Shapes.{IsShapeOf}
-use Rattle.gml_print.specs.declared.limits.TheConstants.{GREATEST_PLACE}
 use Rattle.cert_text.specs.declared.tree.CertNode.{CertNode}
 use Rattle.cert_text.specs.declared.trimming.TheConstants.{MOST_SPLITS}
 use Rattle.cert_text.specs.Accepting.{Accepts}

@@ -10,7 +10,7 @@ ghost use Rattle.compact_main.specs.inner.Readings.{IsTextLimit};
 ghost use Rattle.compact_main.specs.inner.Askings.{AreFound, IsCommand};
 
 use crate::sample::MOST_SAMPLE;
-use gml_print::MOST_PITCH;
+use compact_types::MOST_PITCH;
 use gml_text::MOST_BYTES;
 use itoa::Buffer;
 

@@ -7,7 +7,7 @@ ghost use Rattle.drawing_read.specs.Readings.{IsReading};
 ghost use Rattle.drawing_check.specs.Shapes.{IsShapeOf};
 ghost use Rattle.cert_text.specs.Certificates.{IsPitch};
 ghost use Rattle.cert_text.specs.Loads.{IsCertTree};
-ghost use Rattle.gml_print.specs.declared.limits.TheConstants.{MOST_PITCH};
+ghost use Rattle.compact_types.specs.declared.limits.TheConstants.{MOST_PITCH};
 ghost use Rattle.compact_main.specs.Commands.{IsWithinLimits};
 ghost use Rattle.compact_main.specs.Intakes.{limit_of};
 ghost use Rattle.compact_main.specs.Outputs.{Draws, DrawsBest, IsCertified, Output, FirstFault};

@@ -1,3 +1,6 @@
+pub mod DrawingLemmas
+pub mod RangeLemmas
+pub mod ListLemmas
 pub mod OneBest
 pub mod SumLemmas
 pub mod AxisLemmas
@@ -13,4 +16,6 @@ pub mod CornerLemmas
 pub mod Multiples
 pub mod DivisionLemmas
 pub mod ScalingLemmas
+pub mod ScaledUp
+pub mod GridLemmas
 pub mod Laws

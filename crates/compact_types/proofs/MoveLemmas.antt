@@ -18,6 +18,7 @@ use Rattle.compact_types.specs.Lookups.{place, piece_at, way_at, along}
 use Rattle.compact_types.specs.Moves.{moved_point, moved}
 use Rattle.compact_types.specs.Segments.{IsBetween, OnSegment}
 use Rattle.compact_types.specs.Ways.{HasWay}
+use Rattle.compact_types.proofs.DrawingLemmas.{drawing_of_crossing_free}
 use Rattle.compact_types.proofs.EndLemmas.{end_is_vertex}
 use Rattle.compact_types.proofs.OneBest.{same_point, same_places}
 use Rattle.compact_types.proofs.SumLemmas.{sum_to-same}
@@ -132,7 +133,7 @@ crossing_free-moved shape places dx dy free = record {
 -- a drawing, moved
 pub drawing-moved : (shape : Shape) (places : Places) (dx dy : ℤ) → IsDrawing shape places → IsDrawing shape (moved dx dy places)
 drawing-moved shape places dx dy drawing =
-    record { crossing_free = crossing_free-moved shape places dx dy drawing.crossing_free }
+    drawing_of_crossing_free shape (moved dx dy places) (crossing_free-moved shape places dx dy drawing.crossing_free)
 
 -- how far apart two points are stays
 pub gap-moved : (d a b : ℤ) → gap (a +ℤ d) (b +ℤ d) ≡ gap a b

@@ -14,7 +14,7 @@ times-sub by a b =
     omega (arith, ints, same)
 
 -- products are in the order of their factors
-times-le_pos : (n : ℕ) (a b : ℤ) → a ≤ℤ b → (pos n *ℤ a) ≤ℤ (pos n *ℤ b)
+pub times-le_pos : (n : ℕ) (a b : ℤ) → a ≤ℤ b → (pos n *ℤ a) ≤ℤ (pos n *ℤ b)
 times-le_pos zero a b h = omega (arith, ints, zero-*ℤ a, zero-*ℤ b)
 times-le_pos (suc n) a b h = omega (arith, ints, suc_ℤ-*ℤ (pos n) a, suc_ℤ-*ℤ (pos n) b, times-le_pos n a b h)
 

@@ -20,6 +20,7 @@ use Rattle.compact_types.specs.Magnitudes.{IsWithin, AreWithin}
 use Rattle.compact_types.specs.Scalings.{IsScaled, IsFirstOff}
 use Rattle.compact_types.specs.Segments.{IsBetween, OnSegment}
 use Rattle.compact_types.specs.Ways.{HasWay}
+use Rattle.compact_types.proofs.DrawingLemmas.{drawing_of_crossing_free}
 use Rattle.compact_types.proofs.Multiples.{times-sub, times-le, times-lt, factor-le, factor-lt, same_factor, grows_up, grows_down}
 use Rattle.compact_types.proofs.OneBest.{same_point, same_places}
 use Rattle.compact_types.proofs.SumLemmas.{sum_to-same, sum_to-scale, times-add}
@@ -129,7 +130,7 @@ crossing_free-scaled by shape places scaled positive is free = record {
 pub drawing-scaled : (by : ℤ) (shape : Shape) (places scaled : Places) → pos 1 ≤ℤ by → IsScaled by places scaled →
     IsDrawing shape places → IsDrawing shape scaled
 drawing-scaled by shape places scaled positive is drawing =
-    record { crossing_free = crossing_free-scaled by shape places scaled positive is drawing.crossing_free }
+    drawing_of_crossing_free shape scaled (crossing_free-scaled by shape places scaled positive is drawing.crossing_free)
 
 -- lengths are divided
 gap-times : (by a b : ℤ) → pos 1 ≤ℤ by → gap (by *ℤ a) (by *ℤ b) ≡ by *ℤ gap a b

@@ -1,5 +1,5 @@
 -- Vertices, pieces and ways by their numbers.
-use Rattle.std.specs.Prelude.{◌≡◌, ℕ, ◌<◌, pos, ℤ, List, length, slice_index_or, ◌⊎◌}
+use Rattle.std.specs.Prelude.{◌≡◌, ℕ, ◌<◌, pos, ℤ, List, length, map, slice_index_or, ◌⊎◌}
 use Rattle.compact_types.specs.declared.places.Point.{Point}
 use Rattle.compact_types.specs.declared.places.Axis.{Axis}
 use Rattle.compact_types.specs.declared.places.Axis.TheVariants.{X, Y}
@@ -25,6 +25,13 @@ piece_at pieces number = slice_index_or pieces number no_piece
 -- the way of the piece of a number
 abbrev pub way_at : List Way → ℕ → Way
 way_at ways number = slice_index_or ways number East
+
+-- the pieces between these pairs of ends, and the points with these coordinates
+abbrev pub pieces_between : List (ℕ × ℕ) → List Piece
+pieces_between ends = map (λ end. record { from = end.0; to = end.1 }) ends
+
+abbrev pub points_at : List (ℤ × ℤ) → List Point
+points_at coordinates = map (λ point. record { x = point.0; y = point.1 }) coordinates
 
 -- the coordinate of a point along an axis
 abbrev pub along : Axis → Point → ℤ

@@ -18,3 +18,8 @@ IsPointWithin bound point = IsWithin bound point.x × IsWithin bound point.y
 abbrev pub AreWithin : ℕ → Places → Type 0
 AreWithin bound places =
     (axis : Axis) (v : ℕ) → v < length places.xy → IsWithin bound (along axis (place places.xy v))
+
+-- no coordinate is negative
+abbrev pub IsNowhereNegative : Places → Type 0
+IsNowhereNegative places =
+    (axis : Axis) (v : ℕ) → v < length places.xy → pos 0 ≤ℤ (along axis (place places.xy v))

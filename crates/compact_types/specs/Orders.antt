@@ -1,5 +1,5 @@
 -- The order of drawings.
-use Rattle.std.specs.Prelude.{◌≡◌, ℤ, ◌<ℤ◌, List, [], ◌∷◌, ◌⊎◌, ◌↔◌}
+use Rattle.std.specs.Prelude.{◌≡◌, ℕ, ◌<◌, ℤ, ◌<ℤ◌, List, [], ◌∷◌, ◌⊎◌, ◌↔◌}
 use Rattle.std.specs.declared.cmp.Ordering.{Ordering}
 use Rattle.std.specs.declared.cmp.Ordering.TheVariants.{Less, Equal, Greater}
 use Rattle.compact_types.specs.declared.places.Point.{Point}
@@ -26,6 +26,10 @@ IsBefore k l =
 -- the first point comes before the second: its x is less, or equal with the lesser y
 abbrev pub IsPointBefore : Point → Point → Type 0
 IsPointBefore a b = (a.x <ℤ b.x) ⊎ ((a.x ≡ b.x) × (a.y <ℤ b.y))
+
+-- the pair i, j comes before the pair p, q in the order of the list
+abbrev pub IsPairBefore : ℕ → ℕ → ℕ → ℕ → Type 0
+IsPairBefore i j p q = (i < p) ⊎ ((i ≡ p) × (j < q))
 
 -- the answer of a comparison says exactly how the keys are ordered
 pub record SaysOrder (k l : Key) (order : Ordering) : Type 0 where

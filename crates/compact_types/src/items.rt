@@ -151,13 +151,11 @@ mod tests {
     fn grows_and_shrinks(rt: HostRuntime) -> Result<(), Fail> {
         let mut list = Items::new(rt.alloc());
         both(&list);
-        list.push(7u8).ok().ok_or("push")?;
-        list.extend_from_slice(&[8, 9]).ok().ok_or("extend")?;
+        list.push(7u8)?;
+        list.extend_from_slice(&[8, 9])?;
         assert_eq!(rt; list.as_slice(), [7, 8, 9].as_slice());
-        assert_eq!(rt;
-            list.copy().ok().ok_or("copy")?.as_slice(),
-            [7, 8, 9].as_slice()
-        );
+        let same = list.copy()?;
+        assert_eq!(rt; same.as_slice(), list.as_slice());
         assert_eq!(rt; list.pop(), Some(9));
         assert_eq!(rt; list.get(1), Some(&8));
         assert_eq!(rt; list.get(2), None);

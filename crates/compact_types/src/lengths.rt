@@ -5,6 +5,7 @@ ghost use Rattle.compact_types.specs.Lengths as lengths;
 ghost use Rattle.compact_types.specs.Lookups.{along};
 ghost use Rattle.compact_types.specs.Magnitudes.{IsWithin, IsPointWithin, AreWithin};
 
+use crate::axes::coordinate;
 use crate::limits::{GREATEST_THOUSANDTHS, MOST_PIECES};
 use crate::places::{Axis, Places, Point};
 use crate::plan::Plan;
@@ -45,10 +46,7 @@ fn gap_along(axis: Axis, a: Point, b: Point) -> i64
     ensures low { pos 0 ≤ℤ result }
     ensures high { result ≤ℤ pos (2 * GREATEST_THOUSANDTHS) }
 {
-    match axis {
-        Axis::X => gap(a.x, b.x),
-        Axis::Y => gap(a.y, b.y),
-    }
+    gap(coordinate(axis, a), coordinate(axis, b))
 }
 
 /// How far apart two numbers are.

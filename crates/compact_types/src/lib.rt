@@ -28,7 +28,7 @@ mod sums;
 #[cfg(test)]
 mod tests;
 
-pub use axes::{length_by_axes, ways_by_axes};
+pub use axes::{coordinate, high_end, length_by_axes, low_end, ways_by_axes};
 pub use bests::at_most_one_best;
 pub use divisions::scale_down;
 pub use equalities::equal_by_parts;
@@ -36,10 +36,11 @@ pub use groups::{join_groups, single_groups};
 pub use items::Items;
 pub use lengths::plain_length;
 pub use limits::{
-    GREATEST_COORDINATE, GREATEST_THOUSANDTHS, MOST_CHOICES, MOST_PIECES, MOST_VERTICES,
+    GREATEST_COORDINATE, GREATEST_PLACE, GREATEST_THOUSANDTHS, MOST_CHOICES, MOST_PAIRS,
+    MOST_PIECES, MOST_PITCH, MOST_VERTICES, THOUSANDTHS,
 };
 pub use moves::{moves_add_up, moves_keep_drawings, one_move_to_zero};
-pub use orders::{compare, keys_are_ordered};
+pub use orders::{compare, compare_points, keys_are_ordered};
 pub use places::{Axis, Key, Places, Point};
 pub use plan::{Piece, Plan, Shape, Way};
 pub use refusal::{NoMemory, Refusal};

@@ -22,7 +22,7 @@ pub fn compare(a: &Key, b: &Key) -> Ordering
     }
 }
 
-/// The order of two lists of places, equally long, by the first number that differs.
+/// The order of equally many places, by the first number that differs.
 fn compare_places(a: &Places, b: &Places) -> Ordering
     requires { length a.now.xy ≡ length b.now.xy }
     ensures { MatchOrdering result
@@ -30,11 +30,11 @@ fn compare_places(a: &Places, b: &Places) -> Ordering
         (a.now ≡ b.now)
         (IsListBefore (orders.numbers_of b.now.xy) (orders.numbers_of a.now.xy)) }
 {
-    compare_points(a.xy.as_slice(), b.xy.as_slice())
+    compare_lists(a.xy.as_slice(), b.xy.as_slice())
 }
 
 /// The order of two equally long lists of points, by the first that differs.
-fn compare_points(a: &[Point], b: &[Point]) -> Ordering
+fn compare_lists(a: &[Point], b: &[Point]) -> Ordering
     requires { length a.now ≡ length b.now }
     ensures { MatchOrdering result
         (IsListBefore (orders.numbers_of a.now) (orders.numbers_of b.now))
@@ -42,7 +42,7 @@ fn compare_points(a: &[Point], b: &[Point]) -> Ordering
         (IsListBefore (orders.numbers_of b.now) (orders.numbers_of a.now)) }
 {
     for i in 0..a.len() {
-        match compare_point(a[i], b[i]) {
+        match compare_points(a[i], b[i]) {
             Ordering::Equal => {}
             order => return order,
         }
@@ -51,7 +51,7 @@ fn compare_points(a: &[Point], b: &[Point]) -> Ordering
 }
 
 /// The order of two points, by x and then y.
-fn compare_point(a: Point, b: Point) -> Ordering
+pub fn compare_points(a: Point, b: Point) -> Ordering
     ensures { MatchOrdering result (IsPointBefore a b) (a ≡ b) (IsPointBefore b a) }
 {
     match a.x.cmp(&b.x) {

@@ -1,16 +1,26 @@
 //! The graph of a drawing, cut into straight pieces, and the way that each piece goes.
 
-ghost use Rattle.std.specs.Prelude.{◌≡◌, length, IfOk};
-ghost use Rattle.compact_types.specs.Lookups.{EndsAreVertices};
+ghost use Rattle.std.specs.Prelude.{◌≡◌, length, IfOk, MatchOption};
+ghost use Rattle.compact_types.specs.Lookups.{EndsAreVertices, pieces_between};
 
 use crate::items::Items;
 use crate::refusal::NoMemory;
+use std::alloc::Global;
 
 /// A straight piece of an edge, from one vertex to another, by their numbers.
 #[derive(Clone, Copy, Debug, PartialEq, Eq)]
 pub struct Piece {
     pub from: u32,
     pub to: u32,
+}
+
+impl Piece {
+    /// The piece from one vertex to another.
+    pub fn new(from: u32, to: u32) -> Piece
+        ensures { result ≡ record { from = from; to = to } }
+    {
+        Piece { from, to }
+    }
 }
 
 /// The graph of a drawing, cut into straight pieces. Bends are vertices too.
@@ -23,6 +33,26 @@ pub struct Plan {
 }
 
 impl Plan {
+    /// The plan with a piece for each pair of ends; `None` exactly if one of them is not a vertex.
+    pub fn of_ends(
+        alloc: Global,
+        vertices: u32,
+        ends: &[(u32, u32)],
+    ) -> Result<Option<Plan>, NoMemory>
+        ensures { IfOk result (λ made. MatchOption made
+            (EndsAreVertices vertices (pieces_between ends.now) → ⊥)
+            (λ plan. (plan.vertices ≡ vertices) × (plan.pieces ≡ pieces_between ends.now))) }
+    {
+        let mut pieces = Items::new(alloc);
+        for &(from, to) in ends {
+            if from >= vertices || to >= vertices {
+                return Ok(None);
+            }
+            pieces.push(Piece::new(from, to))?;
+        }
+        Ok(Some(Plan { vertices, pieces }))
+    }
+
     /// An equal plan, on the allocator of its list.
     pub fn copy(&self) -> Result<Plan, NoMemory>
         ensures { IfOk result (λ copy. copy ≡ self.now) }

@@ -1,6 +1,6 @@
-//! A drawing that is scaled down is a drawing, in its proportions.
+//! A drawing that is scaled down, or up by a whole number, is a drawing, in its proportions.
 
-ghost use Rattle.std.specs.Prelude.{◌≡◌, ◌↔◌, ℕ, pos, ℤ, ◌*ℤ◌, ◌≤ℤ◌};
+ghost use Rattle.std.specs.Prelude.{◌≡◌, ◌↔◌, ◌⊎◌, ℕ, pos, ℤ, ◌*ℤ◌, ◌≤ℤ◌};
 ghost use Rattle.compact_types.specs.declared.places.Places.{Places};
 ghost use Rattle.compact_types.specs.declared.plan.Plan.{Plan};
 ghost use Rattle.compact_types.specs.declared.plan.Shape.{Shape};
@@ -9,13 +9,14 @@ ghost use Rattle.compact_types.specs.Lengths.{length_of};
 ghost use Rattle.compact_types.specs.Magnitudes.{AreWithin};
 ghost use Rattle.compact_types.specs.Scalings.{IsScaled, IsFirstOff};
 
-/// A drawing that is scaled down is one: a point that two scaled pieces share is, times the number,
-/// one that the pieces share.
+/// Places are crossing-free, or a drawing, exactly if the scaled ones are. A point that two scaled
+/// pieces share is, times the number, one that the pieces share; and a point that two pieces share
+/// is between two points that are, divided by the number, shared by the scaled ones.
 pub fn scaling_keeps_drawings()
     ensures crossing_free { (by : ℤ) (shape : Shape) (places scaled : Places) → pos 1 ≤ℤ by →
-        IsScaled by places scaled → IsCrossingFree shape places → IsCrossingFree shape scaled }
+        IsScaled by places scaled → IsCrossingFree shape places ↔ IsCrossingFree shape scaled }
     ensures drawing { (by : ℤ) (shape : Shape) (places scaled : Places) → pos 1 ≤ℤ by →
-        IsScaled by places scaled → IsDrawing shape places → IsDrawing shape scaled }
+        IsScaled by places scaled → IsDrawing shape places ↔ IsDrawing shape scaled }
 {}
 
 /// Pieces have the same ways before and after.
@@ -48,9 +49,11 @@ pub fn one_scaling()
         IsScaled by places p → IsScaled by places q → p ≡ q }
 {}
 
-/// Places that can be scaled down have no vertex off the grid; and at most one vertex is the first
-/// that is.
+/// Places can be scaled down, or a vertex is the first off the grid; not both, and at most one
+/// vertex is.
 pub fn scaled_or_off()
+    ensures some { (by : ℤ) (places : Places) → pos 1 ≤ℤ by →
+        ((scaled : Places) × IsScaled by places scaled) ⊎ ((v : ℕ) × IsFirstOff by places v) }
     ensures not_both { (by : ℤ) (places scaled : Places) (v : ℕ) →
         IsScaled by places scaled → IsFirstOff by places v → ⊥ }
     ensures one { (by : ℤ) (places : Places) (v w : ℕ) →

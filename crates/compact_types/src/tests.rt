@@ -2,41 +2,18 @@
 //! types cross threads.
 
 ghost use Rattle.std.specs.Prelude.{◌≡◌, length, IfOk};
-ghost use Rattle.compact_types.specs.Magnitudes.{AreWithin};
 
 use super::*;
 use std::alloc::Global;
 use std::cmp::Ordering;
 use std::test::Fail;
 
-/// The places with these coordinates.
-fn places_of(alloc: Global, points: &[(i8, i8)]) -> Result<Places, NoMemory>
-    ensures long { IfOk result (λ places. length places.xy ≡ length points.now) }
-    ensures near { IfOk result (λ places. AreWithin GREATEST_THOUSANDTHS places) }
-{
-    let mut xy = Items::new(alloc);
-    for (x, y) in points {
-        let point = Point {
-            x: i64::from(*x),
-            y: i64::from(*y),
-        };
-        xy.push(point)?;
-    }
-    Ok(Places { xy })
-}
-
 /// Three pieces that follow one another.
 fn path(alloc: Global) -> Result<Plan, Fail>
     ensures { IfOk result (λ plan. (plan.vertices ≡ 4) × (length plan.pieces ≡ 3)) }
 {
-    let mut pieces = Items::new(alloc);
-    pieces.push(Piece { from: 0, to: 1 }).ok().ok_or("piece")?;
-    pieces.push(Piece { from: 2, to: 1 }).ok().ok_or("piece")?;
-    pieces.push(Piece { from: 2, to: 3 }).ok().ok_or("piece")?;
-    Ok(Plan {
-        vertices: 4,
-        pieces,
-    })
+    let plan = Plan::of_ends(alloc, 4, &[(0, 1), (2, 1), (2, 3)])?.ok_or("not a plan")?;
+    Ok(plan)
 }
 
 #[test]
@@ -48,9 +25,7 @@ fn lengths_of_drawings(rt: HostRuntime) -> Result<(), Fail> {
         ([(7, 7), (7, 7), (7, 7), (7, 7)], 0),
         ([(0, 0), (2, 3), (2, 3), (2, 3)], 5),
     ] {
-        let places = places_of(rt.alloc(), points.as_slice())
-            .ok()
-            .ok_or("places")?;
+        let places = Places::at(rt.alloc(), points.as_slice())?;
         assert_eq!(rt; plain_length(&plan, &places), length);
     }
     Ok(())
@@ -59,14 +34,14 @@ fn lengths_of_drawings(rt: HostRuntime) -> Result<(), Fail> {
 /// How a key of worth 5 compares with another.
 fn order_of(
     alloc: Global,
-    points: &[(i8, i8)],
+    points: &[(i32, i32)],
     worth: i64,
-    others: &[(i8, i8)],
+    others: &[(i32, i32)],
 ) -> Result<Ordering, NoMemory>
     requires { length points.now ≡ length others.now }
 {
-    let places = places_of(alloc, points)?;
-    let other = places_of(alloc, others)?;
+    let places = Places::at(alloc, points)?;
+    let other = Places::at(alloc, others)?;
     Ok(compare(
         &Key { worth: 5, places },
         &Key {
@@ -94,21 +69,94 @@ fn order_of_keys(rt: HostRuntime) {
 #[test]
 fn shifts_to_zero(rt: HostRuntime) -> Result<(), Fail> {
     for (points, shifted) in [
-        (
-            [(3, -2), (-1, 5)],
-            [Point { x: 4, y: 0 }, Point { x: 0, y: 7 }],
-        ),
-        (
-            [(2, 4), (9, 8)],
-            [Point { x: 0, y: 0 }, Point { x: 7, y: 4 }],
-        ),
+        ([(3, -2), (-1, 5)], [(4, 0), (0, 7)]),
+        ([(2, 4), (9, 8)], [(0, 0), (7, 4)]),
     ] {
-        let mut places = places_of(rt.alloc(), points.as_slice())
-            .ok()
-            .ok_or("places")?;
+        let mut places = Places::at(rt.alloc(), points.as_slice())?;
+        let expected = Places::at(rt.alloc(), shifted.as_slice())?;
         shift_to_zero(&mut places);
-        assert_eq!(rt; places.xy.as_slice(), shifted.as_slice());
+        assert_eq!(rt; places.xy.as_slice(), expected.xy.as_slice());
     }
+    Ok(())
+}
+
+#[test]
+fn ends_of_a_plan(rt: HostRuntime) -> Result<(), Fail> {
+    let plan = path(rt.alloc())?;
+    let pieces = [Piece::new(0, 1), Piece::new(2, 1), Piece::new(2, 3)];
+    assert_eq!(rt; plan.pieces.as_slice(), pieces.as_slice());
+    for ends in [[(0, 1), (2, 3)], [(0, 1), (3, 2)]] {
+        assert!(rt; Plan::of_ends(rt.alloc(), 3, ends.as_slice())?.is_none());
+    }
+    Ok(())
+}
+
+#[test]
+fn ends_and_coordinates_by_the_axis(rt: HostRuntime) {
+    let piece = Piece::new(4, 7);
+    for (way, low, high) in [
+        (Way::East, 4, 7),
+        (Way::West, 7, 4),
+        (Way::High, 4, 7),
+        (Way::Low, 7, 4),
+    ] {
+        assert_eq!(rt; low_end(way, piece), low);
+        assert_eq!(rt; high_end(way, piece), high);
+    }
+    let point = Point { x: 3, y: -5 };
+    assert_eq!(rt; coordinate(Axis::X, point), 3);
+    assert_eq!(rt; coordinate(Axis::Y, point), -5);
+}
+
+#[test]
+fn copies_of_a_drawing(rt: HostRuntime) -> Result<(), Fail> {
+    let alloc = rt.alloc();
+    let plan = path(alloc)?;
+    let ways = Items::from_slice(alloc, &[Way::East, Way::High, Way::Low])?;
+    let shape = Shape { plan, ways };
+    let same = shape.copy()?;
+    assert_eq!(rt; same.plan.vertices, 4);
+    assert_eq!(rt; same.plan.pieces.as_slice(), shape.plan.pieces.as_slice());
+    assert_eq!(rt; same.ways.as_slice(), shape.ways.as_slice());
+    let places = Places::at(alloc, &[(0, 1), (-2, 3)])?;
+    let key = Key { worth: 7, places };
+    let same = key.copy()?;
+    assert_eq!(rt; same.worth, 7);
+    assert_eq!(rt; same.places.xy.as_slice(), key.places.xy.as_slice());
+    Ok(())
+}
+
+#[test]
+fn copies_of_what_a_search_hands_on(rt: HostRuntime) -> Result<(), Fail> {
+    let alloc = rt.alloc();
+    let first = Choice {
+        s: 0,
+        t: 5,
+        side: 3,
+    };
+    let second = Choice {
+        s: 1,
+        t: 2,
+        side: 0,
+    };
+    let choices = Extension {
+        choices: Items::from_slice(alloc, &[first, second])?,
+    };
+    let branch = Branch { id: 9, choices };
+    let same = branch.copy()?;
+    assert_eq!(rt; same.id, 9);
+    assert_eq!(rt; same.choices.choices.as_slice(), [first, second].as_slice());
+    let flows = Flows {
+        x: Flow {
+            amounts: Items::from_slice(alloc, &[3, 1])?,
+        },
+        y: Flow {
+            amounts: Items::from_slice(alloc, &[4])?,
+        },
+    };
+    let same = flows.copy()?;
+    assert_eq!(rt; same.x.amounts.as_slice(), [3, 1].as_slice());
+    assert_eq!(rt; same.y.amounts.as_slice(), [4].as_slice());
     Ok(())
 }
 
@@ -128,7 +176,7 @@ fn types_cross_threads(rt: HostRuntime) -> Result<(), Fail> {
     both(&(Axis::X, Way::East, NoMemory));
     let refusal: Refusal<u8> = Refusal::NoMemory;
     both(&refusal);
-    let places = places_of(alloc, &[(0, 0)]).ok().ok_or("places")?;
+    let places = Places::at(alloc, &[(0, 0)])?;
     both(&places);
     both(&Key { worth: 0, places });
     Ok(())

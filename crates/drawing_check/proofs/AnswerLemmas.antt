@@ -24,7 +24,8 @@ use Rattle.drawing_check.specs.declared.span.Span.{Span}
 use Rattle.drawing_check.specs.Conditions.{CanCheck}
 use Rattle.drawing_check.specs.Courses.{HasNoLength, IsSlanted, AllHaveWays}
 use Rattle.drawing_check.specs.Faults.{IsFirst, IsFirstApart, FirstShapeFault}
-use Rattle.drawing_check.specs.Meetings.{Meets, IsPairBefore, IsFirstMeeting}
+use Rattle.compact_types.specs.Orders.{IsPairBefore}
+use Rattle.drawing_check.specs.Meetings.{Meets, IsFirstMeeting}
 use Rattle.drawing_check.specs.Points.{IsLeastPoint}
 use Rattle.drawing_check.specs.Shapes.{IsShapeOf}
 use Rattle.drawing_check.specs.inner.Collisions.{IsOn, IsCovered, IsAllowed, Collides}

@@ -1,31 +1,14 @@
 -- Groups of vertices, and which vertices are joined.
 use Rattle.std.proofs.Common.{Option, Some, None, MatchOption, ◌≡◌, ◌≢◌, ℕ, zero, suc, ◌+◌, ◌<◌, ◌≤◌, ◌==◌, List, length, slice_index, min, max, if◌then◌else◌, ◌⊎◌, inl, inr, subst, sym, ap, refl, ◌∙◌, arith}
-use Rattle.std.proofs.lemmas.Bool.{cases_eq, cases_lt, cond-true, cond-false, eq-eqb, ne_eqb}
+use Rattle.std.proofs.lemmas.Bool.{cases_eq, cases_lt}
 use Rattle.compact_types.specs.declared.plan.Plan.{Plan}
 use Rattle.compact_types.specs.Lookups.{piece_at}
 use Rattle.compact_types.specs.Connected.{IsJoined, IsConnected}
 use Rattle.compact_types.specs.Connected.AreJoined.{start, forward, backward}
+use Rattle.compact_types.proofs.Laws.{relabelled, relabelled_is, relabelled_same}
 use Rattle.drawing_check.specs.Faults.{IsFirstApart}
 use Rattle.compact_types.specs.Groups.{GoDown, IsLabelling, merged}
 use Rattle.drawing_check.specs.inner.Groups.{BothJoined, AreLabels, AreGroups, IsSecondLeast}
-
--- labels where all of the group high have the label low
-abbrev pub relabelled : (ℕ → ℕ) → ℕ → ℕ → ℕ → ℕ
-relabelled labels high low v = if labels v == high then low else labels v
-
--- what the new label is
-pub relabelled_is : (labels : ℕ → ℕ) (high low v : ℕ) →
-    ((labels v ≡ high) × (relabelled labels high low v ≡ low)) ⊎ ((labels v ≡ high → ⊥) × (relabelled labels high low v ≡ labels v))
-relabelled_is labels high low v = by_label (cases_eq (labels v) high)
-  where
-    by_label : (labels v ≡ high) ⊎ (labels v ≡ high → ⊥) →
-        ((labels v ≡ high) × (relabelled labels high low v ≡ low)) ⊎ ((labels v ≡ high → ⊥) × (relabelled labels high low v ≡ labels v))
-    by_label (inl same) = inl (same, cond-true (labels v == high) low (labels v) (eq-eqb (labels v) high same))
-    by_label (inr other) = inr (other, cond-false (labels v == high) low (labels v) (ne_eqb (labels v) high other))
-
--- equal labels stay equal
-pub relabelled_same : (labels : ℕ → ℕ) (high low v w : ℕ) → labels v ≡ labels w → relabelled labels high low v ≡ relabelled labels high low w
-relabelled_same labels high low v w same = ap (λ (label : ℕ). if label == high then low else label) same
 
 both_turned : (plan : Plan) (v w : ℕ) → BothJoined plan v w → BothJoined plan w v
 both_turned plan v w both = (both.1, both.0)

@@ -15,7 +15,9 @@ use Rattle.drawing_check.specs.inner.Spans.{IsInside, IsInsideBut}
 use Rattle.drawing_check.specs.Points.{IsLeastPoint}
 use Rattle.drawing_check.specs.inner.CommonEnds.{IsOnlyCommonEnd}
 use Rattle.drawing_check.specs.declared.meeting.Meeting.{Meeting}
-use Rattle.drawing_check.specs.Meetings.{Meets, IsPairBefore, IsFirstMeeting}
+use Rattle.compact_types.specs.Orders.{IsPairBefore}
+use Rattle.compact_types.proofs.Laws.{drawing_of_crossing_free}
+use Rattle.drawing_check.specs.Meetings.{Meets, IsFirstMeeting}
 use Rattle.drawing_check.specs.inner.Partners.{IsApart, IsFirstPartner}
 use Rattle.drawing_check.specs.inner.Collisions.{IsOn, IsCovered, IsAllowed, Collides}
 
@@ -164,7 +166,7 @@ pub drawing_decided : (shape : Shape) (places : Places) (found : Option Meeting)
     HasWays shape places → length places.xy ≡ shape.plan.vertices →
     (IsTrue none → IsDrawing shape places) × (IsDrawing shape places → IsTrue none)
 drawing_decided shape places None true is apart ways fit =
-    (λ yes. record { crossing_free = record { places_fit = fit; ways = ways; meetings = meetings_from_apart shape.plan places apart } }, λ drawing. refl)
+    (λ yes. drawing_of_crossing_free shape places (record { places_fit = fit; ways = ways; meetings = meetings_from_apart shape.plan places apart }), λ drawing. refl)
 drawing_decided shape places None false is apart ways fit = absurd (let e : false ≡ true = is in cc)
 drawing_decided shape places (Some m) true is meeting ways fit = absurd (let e : true ≡ false = is in cc)
 drawing_decided shape places (Some m) false is meeting ways fit =

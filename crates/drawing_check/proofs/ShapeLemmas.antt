@@ -17,7 +17,8 @@ use Rattle.drawing_check.specs.declared.fault.ShapeFault.{ShapeFault}
 use Rattle.drawing_check.specs.declared.fault.ShapeFault.TheVariants.{ZeroPiece, Slanted, Disconnected, Meeting}
 use Rattle.drawing_check.specs.Courses.{HasNoLength, IsSlanted, AllHaveWays}
 use Rattle.drawing_check.specs.inner.PieceWays.{AreWays}
-use Rattle.drawing_check.specs.Points.{IsPointBefore, IsLeastPoint}
+use Rattle.compact_types.specs.Orders.{IsPointBefore}
+use Rattle.drawing_check.specs.Points.{IsLeastPoint}
 use Rattle.drawing_check.specs.Meetings.{Meets, IsFirstMeeting}
 use Rattle.drawing_check.specs.inner.Partners.{IsApart}
 use Rattle.drawing_check.specs.Faults.{IsFirst, IsFirstApart, FirstShapeFault}

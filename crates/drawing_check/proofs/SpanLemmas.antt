@@ -7,7 +7,8 @@ use Rattle.compact_types.specs.declared.places.Point.{Point}
 use Rattle.compact_types.proofs.Laws.{same_point}
 use Rattle.drawing_check.specs.declared.span.Extent.{Extent}
 use Rattle.drawing_check.specs.inner.Spans.{IsInside, IsInsideBut}
-use Rattle.drawing_check.specs.Points.{IsPointBefore, IsLeastPoint}
+use Rattle.compact_types.specs.Orders.{IsPointBefore}
+use Rattle.drawing_check.specs.Points.{IsLeastPoint}
 
 -- the coordinates of a point that is there
 abbrev x_of : Option Point → ℤ

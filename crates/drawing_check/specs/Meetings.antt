@@ -1,9 +1,10 @@
 -- Where two pieces meet that may not.
-use Rattle.std.specs.Prelude.{◌≡◌, ℕ, ◌<◌, length, ◌⊎◌}
+use Rattle.std.specs.Prelude.{ℕ, ◌<◌, length}
 use Rattle.compact_types.specs.declared.places.Point.{Point}
 use Rattle.compact_types.specs.declared.places.Places.{Places}
 use Rattle.compact_types.specs.declared.plan.Plan.{Plan}
 use Rattle.compact_types.specs.Drawings.{OnPiece, MayShare}
+use Rattle.compact_types.specs.Orders.{IsPairBefore}
 use Rattle.drawing_check.specs.Points.{IsLeastPoint}
 
 -- the point z lies on the pieces i and j, which may not share it
@@ -11,10 +12,6 @@ pub record Meets (plan : Plan) (places : Places) (i j : ℕ) (z : Point) : Type 
   pub on_first : OnPiece plan places i z
   pub on_second : OnPiece plan places j z
   pub forbidden : MayShare plan places i j z → ⊥
-
--- the pair i, j comes before the pair p, q in the order of the list
-abbrev pub IsPairBefore : ℕ → ℕ → ℕ → ℕ → Type 0
-IsPairBefore i j p q = (i < p) ⊎ ((i ≡ p) × (j < q))
 
 -- p before q is the first pair of pieces that meet, and z the least point where they do
 pub record IsFirstMeeting (plan : Plan) (places : Places) (p q : ℕ) (z : Point) : Type 0 where

@@ -16,7 +16,7 @@ use Rattle.gml_text.specs.PairCounts.{count_in_value, count_in_pair, count_in_pa
 use Rattle.gml_text.specs.Grammar.{IsWithinGrammar, IsReadable}
 use Rattle.gml_text.proofs.Laws.{tree_words, rolled_words, pair_words, value_words, tree_depth, rolled_depth, pair_depth, value_depth, tree_count, rolled_count, pair_with_value, value_count}
 use Rattle.drawing_read.specs.declared.reading.Spot.{Spot}
-use Rattle.gml_print.specs.declared.limits.TheConstants.{GREATEST_PLACE, MOST_PITCH}
+use Rattle.compact_types.specs.declared.limits.TheConstants.{GREATEST_PLACE, MOST_PITCH}
 use Rattle.gml_print.specs.Numbers.{number_text}
 use Rattle.gml_print.specs.Placing.{with_changed_value, change_at, replaced, put_value}
 use Rattle.gml_print.specs.Places.{coordinate_at, numeral_for, placed}

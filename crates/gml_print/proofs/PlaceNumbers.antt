@@ -18,10 +18,9 @@ use Rattle.gml_text.specs.NumeralKinds.{parts_of}
 use Rattle.gml_text.proofs.Laws.{parts_of-is}
 use Rattle.gml_text.specs.Thousandths.{times_ten, within_range, thousandths_of}
 use Rattle.gml_print.specs.Numbers.{number_text}
-use Rattle.compact_types.specs.declared.limits.TheConstants.{GREATEST_COORDINATE, GREATEST_THOUSANDTHS}
-use Rattle.compact_types.specs.Magnitudes.{IsWithin, AreWithin}
-use Rattle.gml_print.specs.declared.limits.TheConstants.{GREATEST_PLACE, MOST_PITCH}
-use Rattle.gml_print.specs.Places.{NoneBelowZero, coordinate_at, in_thousandths}
+use Rattle.compact_types.specs.declared.limits.TheConstants.{GREATEST_COORDINATE, GREATEST_PLACE, GREATEST_THOUSANDTHS, MOST_PITCH}
+use Rattle.compact_types.specs.Magnitudes.{IsWithin, AreWithin, IsNowhereNegative}
+use Rattle.gml_print.specs.Places.{coordinate_at, in_thousandths}
 use Rattle.gml_print.proofs.Numerals.{decimal_digits}
 
 -- a coordinate that may be written
@@ -31,7 +30,7 @@ IsWritable z = (pos 0 ≤ℤ z) × (z ≤ℤ pos GREATEST_PLACE)
 abbrev pub AreWritable : Places → Type 0
 AreWritable places = (axis : Axis) (v : ℕ) → v < length places.xy → IsWritable (along axis (place places.xy v))
 
-pub are_writable : (places : Places) → NoneBelowZero places → AreWithin GREATEST_PLACE places → AreWritable places
+pub are_writable : (places : Places) → IsNowhereNegative places → AreWithin GREATEST_PLACE places → AreWritable places
 are_writable places not_below within axis v inside = (not_below axis v inside, (within axis v inside).high)
 
 magnitude : (z : ℤ) → IsWithin GREATEST_PLACE z → unsigned_abs z ≤ GREATEST_PLACE

@@ -32,7 +32,7 @@ use Rattle.drawing_read.specs.Faults.{graphs_of, graph_fault}
 use Rattle.drawing_read.specs.Spots.{graph_spots}
 use Rattle.drawing_read.specs.Readings.{graph_place, IsGraphReading, IfOne, IsReading}
 use Rattle.gml_print.specs.Placing.{with_changed_value}
-use Rattle.gml_print.specs.declared.limits.TheConstants.{MOST_PITCH}
+use Rattle.compact_types.specs.declared.limits.TheConstants.{MOST_PITCH}
 use Rattle.gml_print.specs.Places.{placed, CanPut, in_thousandths, moved_reading}
 use Rattle.gml_print.proofs.ListFacts.{length_range}
 use Rattle.gml_print.proofs.PlaceNumbers.{AreWritable, are_writable, numerals_tell, same_multiple, place_writable}

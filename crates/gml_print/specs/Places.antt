@@ -4,8 +4,8 @@ use Rattle.compact_types.specs.declared.places.Point.{Point}
 use Rattle.compact_types.specs.declared.places.Places.{Places}
 use Rattle.compact_types.specs.declared.places.Axis.{Axis}
 use Rattle.compact_types.specs.Lookups.{place, along}
-use Rattle.compact_types.specs.Magnitudes.{AreWithin}
-use Rattle.gml_print.specs.declared.limits.TheConstants.{GREATEST_PLACE, MOST_PITCH}
+use Rattle.compact_types.specs.Magnitudes.{AreWithin, IsNowhereNegative}
+use Rattle.compact_types.specs.declared.limits.TheConstants.{GREATEST_PLACE, MOST_PITCH}
 use Rattle.gml_text.specs.declared.tree.Tree.{Tree}
 use Rattle.gml_text.specs.declared.tree.Value.{Value}
 use Rattle.gml_text.specs.declared.tree.Value.TheVariants.{Whole}
@@ -29,16 +29,11 @@ placed tree [] places pitch = tree
 placed tree (spot ∷ spots) places pitch =
     placed (put_value spot.path (numeral_for places pitch spot) tree) spots places pitch
 
--- no coordinate of a place is below zero
-abbrev pub NoneBelowZero : Places → Type 0
-NoneBelowZero places =
-    (axis : Axis) (v : ℕ) → v < length places.xy → pos 0 ≤ℤ (along axis (place places.xy v))
-
 -- the places can be written into the tree of this reading, with so many units between neighbours
 pub record CanPut (tree : Tree) (reading : Reading) (places : Places) (pitch : ℕ) : Type 0 where
   pub read : IsReading tree reading
   pub one_for_each : length places.xy ≡ reading.plan.vertices
-  pub not_below : NoneBelowZero places
+  pub not_below : IsNowhereNegative places
   pub within : AreWithin GREATEST_PLACE places
   pub some_pitch : 1 ≤ pitch
   pub most_pitch : pitch ≤ MOST_PITCH

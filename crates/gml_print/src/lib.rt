@@ -7,14 +7,12 @@
 #![tactic(auto)]
 
 mod copy;
-mod limits;
 mod number;
 mod place;
 mod places;
 mod print;
 mod promises;
 
-pub use limits::{GREATEST_PLACE, MOST_PITCH};
 pub use number::whole_text;
 pub use place::put_value;
 pub use places::{put_places, with_places};

@@ -2,7 +2,7 @@
 
 ghost use Rattle.std.specs.Prelude.{◌≡◌, ◌≤◌, pos, ◌*ℤ◌, IfOk};
 ghost use Rattle.compact_types.specs.Magnitudes.{IsWithin, AreWithin};
-ghost use Rattle.gml_print.specs.declared.limits.TheConstants.{GREATEST_PLACE, MOST_PITCH};
+ghost use Rattle.compact_types.specs.declared.limits.TheConstants.{GREATEST_PLACE, MOST_PITCH};
 ghost use Rattle.gml_print.specs.Places.{CanPut, placed, numeral_for, coordinate_at};
 
 use crate::copy::copy_tree;

@@ -14,7 +14,7 @@ ghost use Rattle.gml_text.specs.Texts.{Spells};
 ghost use Rattle.drawing_read.specs.declared.reading.Reading.{Reading};
 ghost use Rattle.drawing_read.specs.declared.reading.Spot.{Spot};
 ghost use Rattle.drawing_read.specs.Readings.{IsReading};
-ghost use Rattle.gml_print.specs.declared.limits.TheConstants.{GREATEST_PLACE, MOST_PITCH};
+ghost use Rattle.compact_types.specs.declared.limits.TheConstants.{GREATEST_PLACE, MOST_PITCH};
 ghost use Rattle.gml_print.specs.Laws.{ReadsBack};
 ghost use Rattle.gml_print.specs.Numbers.{number_text};
 ghost use Rattle.gml_print.specs.Paths.{value_at, Part, blanked};

@@ -4,7 +4,7 @@ use Rattle.std.specs.Prelude.{if◌then◌else◌}
 use Rattle.std.specs.Prelude.{List, [], ◌∷◌, length, codes, Option, None, Some, option_and_then}
 use Rattle.compact_types.specs.declared.places.Axis.{Axis}
 use Rattle.compact_types.specs.declared.places.Axis.TheVariants.{X, Y}
-use Rattle.gml_print.specs.declared.limits.TheConstants.{MOST_PITCH}
+use Rattle.compact_types.specs.declared.limits.TheConstants.{MOST_PITCH}
 use Rattle.gml_text.specs.Bytes.{is_digit}
 use Rattle.shape_graphs.specs.declared.graph.TheConstants.{MOST_AMOUNT}
 use Rattle.cert_text.specs.declared.tree.CertNode.{CertNode}

@@ -2,14 +2,14 @@
 
 ghost use Rattle.std.specs.Prelude.{◌≡◌, ◌↔◌, ℕ, List, ◌++◌, ◌<◌, ◌≤◌, length, take, drop, IsTrue};
 ghost use Rattle.std.specs.Prelude.{IfSome, MatchOption};
-ghost use Rattle.gml_print.specs.declared.limits.TheConstants.{MOST_PITCH};
+ghost use Rattle.compact_types.specs.declared.limits.TheConstants.{MOST_PITCH};
 ghost use Rattle.cert_text.specs.Certificates.{HasNoHead, IsBeforeLine, IsCutAtHead};
 ghost use Rattle.cert_text.specs.Certificates.{IsCutAtLastHead};
 ghost use Rattle.cert_text.specs.Texts.{head_start};
 ghost use Rattle.cert_text.specs.inner.Reading.{head_of};
 
 use crate::reading::numbers::{after_byte, after_word, number_at};
-use gml_print::MOST_PITCH;
+use compact_types::MOST_PITCH;
 
 /// The pitch of a head line, and the text that follows the line.
 #[derive(Clone, Copy)]

@@ -1,64 +1,27 @@
 //! Plans and places, and what the check answers.
 
-ghost use Rattle.std.specs.Prelude.{◌≡◌, IfOk, IfSome};
-ghost use Rattle.compact_types.specs.Magnitudes.{AreWithin};
-
 use super::check;
 use crate::drawing::is_drawing;
 use crate::fault::ShapeFault;
-use compact_types::{
-    GREATEST_THOUSANDTHS, Items, MOST_PIECES, NoMemory, Piece, Places, Plan, Point, Refusal,
-};
+use compact_types::{MOST_PIECES, NoMemory, Places, Plan, Refusal};
 use std::alloc::Global;
 use std::process::Abort;
 use std::test::Fail;
-
-const REACH: i64 = GREATEST_THOUSANDTHS as i64;
-
-/// The plan with these pieces; `None` where an end of one is no vertex.
-fn plan_of(alloc: Global, vertices: u32, ends: &[(u32, u32)]) -> Result<Option<Plan>, NoMemory>
-    ensures { IfOk result (λ made. IfSome made (λ plan. plan.vertices ≡ vertices)) }
-{
-    let mut pieces = Items::new(alloc);
-    for &(from, to) in ends {
-        if from >= vertices || to >= vertices {
-            return Ok(None);
-        }
-        pieces.push(Piece { from, to })?;
-    }
-    Ok(Some(Plan { vertices, pieces }))
-}
-
-/// The places with these coordinates; `None` where one is too far out to be checked.
-fn places_of(alloc: Global, coordinates: &[(i64, i64)]) -> Result<Option<Places>, NoMemory>
-    ensures { IfOk result (λ made. IfSome made (AreWithin GREATEST_THOUSANDTHS)) }
-{
-    let mut xy = Items::new(alloc);
-    for &(x, y) in coordinates {
-        if x < -REACH || x > REACH || y < -REACH || y > REACH {
-            return Ok(None);
-        }
-        xy.push(Point { x, y })?;
-    }
-    Ok(Some(Places { xy }))
-}
 
 /// Whether the answer is a shape that has these places as a drawing, or else the fault; `None`
 /// where nothing can be checked.
 fn answer(
     alloc: Global,
-    coordinates: &[(i64, i64)],
+    points: &[(i32, i32)],
     ends: &[(u32, u32)],
 ) -> Result<Option<Result<(), ShapeFault>>, NoMemory> {
-    let Ok(vertices) = u32::try_from(coordinates.len()) else {
+    let Ok(vertices) = u32::try_from(points.len()) else {
         return Ok(None);
     };
-    let Some(plan) = plan_of(alloc, vertices, ends)? else {
+    let Some(plan) = Plan::of_ends(alloc, vertices, ends)? else {
         return Ok(None);
     };
-    let Some(places) = places_of(alloc, coordinates)? else {
-        return Ok(None);
-    };
+    let places = Places::at(alloc, points)?;
     if vertices == 0 || places.xy.len() != vertices as usize || plan.pieces.len() > MOST_PIECES {
         return Ok(None);
     }
@@ -70,11 +33,11 @@ fn answer(
     }
 }
 
-type Case<'a> = (&'a [(i64, i64)], &'a [(u32, u32)], Result<(), ShapeFault>);
+type Case<'a> = (&'a [(i32, i32)], &'a [(u32, u32)], Result<(), ShapeFault>);
 
 fn assert_answers(rt: &impl Abort, alloc: Global, cases: &[Case]) -> Result<(), Fail> {
-    for (coordinates, ends, want) in cases {
-        assert_eq!(rt; answer(alloc, coordinates, ends)?, Some(*want));
+    for (points, ends, want) in cases {
+        assert_eq!(rt; answer(alloc, points, ends)?, Some(*want));
     }
     Ok(())
 }

@@ -1,13 +1,11 @@
 //! A drawing read with new places.
 
 ghost use Rattle.std.specs.Prelude.{pos, ◌≤ℤ◌, IsTrue};
-ghost use Rattle.compact_types.specs.Magnitudes.{AreWithin};
-ghost use Rattle.gml_print.specs.Places.{NoneBelowZero};
+ghost use Rattle.compact_types.specs.Magnitudes.{AreWithin, IsNowhereNegative};
 
 use super::*;
-use crate::limits::GREATEST_PLACE;
 use crate::print::print_tree;
-use compact_types::{Items, Point};
+use compact_types::GREATEST_PLACE;
 use drawing_read::read_drawing;
 use gml_text::read_tree;
 use std::test::Fail;
@@ -31,7 +29,7 @@ fn may_stand(number: i64) -> bool
 }
 
 fn may_be_put(places: &Places) -> bool
-    ensures not_below { IsTrue result → NoneBelowZero places.now }
+    ensures not_below { IsTrue result → IsNowhereNegative places.now }
     ensures within { IsTrue result → AreWithin GREATEST_PLACE places.now }
 {
     for point in places.xy.as_slice() {
@@ -47,10 +45,7 @@ fn may_be_put(places: &Places) -> bool
 fn numerals_at_their_spots(rt: HostRuntime) -> Result<(), Fail> {
     let tree = read_tree(rt.alloc(), BENT)?;
     let reading = read_drawing(rt.alloc(), &tree)?;
-    let points = [(1, 0), (3, 2), (1, 2)].map(|(x, y)| Point { x, y });
-    let places = Places {
-        xy: Items::from_slice(rt.alloc(), points.as_slice())?,
-    };
+    let places = Places::at(rt.alloc(), &[(1, 0), (3, 2), (1, 2)])?;
     assert!(rt; may_be_put(&places));
     assert_eq!(rt; places.xy.len(), reading.plan.vertices as usize);
     let new = put_places(rt.alloc(), &tree, &reading, &places, 10)?;
