@@ -9,7 +9,7 @@ use Rattle.compact_types.specs.declared.plan.Shape.{Shape}
 use Rattle.bars.specs.Lines.{count_to, line_of, line_count}
 use Rattle.bars.specs.Segments.{segment_count, has_piece}
 use Rattle.bars.specs.Solutions.{HasDrawing}
-use Rattle.bars.proofs.Numbering.{count_step, count_below}
+use Rattle.bars.proofs.Numbering.{count_step, count_below, count_below_bound}
 use Rattle.bars.proofs.Standing.{low_of, high_of, coordinate, rises}
 use Rattle.bars.proofs.LineEnds.{low_is_vertex, high_is_vertex}
 use Rattle.bars.proofs.SegmentLists.{filter_step, line_with_piece, count_is}
@@ -71,16 +71,6 @@ twice class has n (suc k) two = by_step (count_step has k) (twice class has n k 
         let here = count_two (λ v. class v == k) n both.0 both.1 both.2 both.3 both.4 (eq-eqb _ _ both.5) (eq-eqb _ _ both.6) in
         omega (arith, is.1, before, more, here)
 
--- a count is at most the bound
-count_most : (test : ℕ → Bool) (n : ℕ) → count_to test n ≤ n
-count_most test zero = omega arith
-count_most test (suc n) = by_step (count_step test n) (count_most test n)
-  where
-    by_step : ((test n ≡ true) × (count_to test (suc n) ≡ suc (count_to test n))) ⊎ ((test n ≡ false) × (count_to test (suc n) ≡ count_to test n)) →
-        count_to test n ≤ n → count_to test (suc n) ≤ suc n
-    by_step (inl is) before = omega (arith, is.1, before)
-    by_step (inr is) before = omega (arith, is.1, before)
-
 -- how long a filtered range is
 filtered_count : (test : ℕ → Bool) (a n : ℕ) → length (filter test (range_with_len a n)) + count_to test a ≡ count_to test (a + n)
 filtered_count test a zero =
@@ -126,7 +116,7 @@ module _ (shape : Shape) (drawing : HasDrawing shape) where
       let all : count_to (has_piece axis shape) (0 + line_count axis shape) ≡ count_to (has_piece axis shape) (line_count axis shape) =
       let same : 0 + line_count axis shape ≡ line_count axis shape = omega arith in ap (count_to (has_piece axis shape)) same in
       let both = twice (line_of axis shape) (has_piece axis shape) shape.plan.vertices (line_count axis shape) (two_in_line axis) in
-      let most = count_most (λ v. ltb (line_of axis shape v) (line_count axis shape)) shape.plan.vertices in
+      let most = count_below_bound (λ v. ltb (line_of axis shape v) (line_count axis shape)) shape.plan.vertices in
       omega (arith, count, all, both, most)
 
   -- there are at most as many segments as vertices
@@ -135,4 +125,4 @@ module _ (shape : Shape) (drawing : HasDrawing shape) where
 
 -- and at most as many lines along an axis
 pub few_lines : (axis : Axis) (shape : Shape) → line_count axis shape ≤ shape.plan.vertices
-few_lines axis shape = count_most _ shape.plan.vertices
+few_lines axis shape = count_below_bound _ shape.plan.vertices

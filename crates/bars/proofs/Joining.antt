@@ -1,6 +1,6 @@
 -- Which vertices are in one line, and the least vertex of a line.
 use Rattle.std.proofs.Common.{◌≡◌, ℕ, zero, suc, ◌<◌, ◌≤◌, ◌==◌, Bool, true, false, length, min, max, if◌then◌else◌, ◌⊎◌, inl, inr, subst, sym, ap, refl, ◌∙◌, arith}
-use Rattle.std.proofs.lemmas.Bool.{cases_eq, cases_lt, cond-true, cond-false, eq-eqb, ne_eqb}
+use Rattle.std.proofs.lemmas.Bool.{cases_lt}
 use Rattle.compact_types.specs.declared.places.Axis.{Axis}
 use Rattle.compact_types.specs.declared.places.Axis.TheVariants.{X, Y}
 use Rattle.compact_types.specs.declared.plan.Plan.{Plan}
@@ -10,6 +10,7 @@ use Rattle.compact_types.specs.Groups.{merged}
 use Rattle.compact_types.specs.Lookups.{piece_at}
 use Rattle.compact_types.specs.Connected.{AreJoined, IsAlong, AreInLine}
 use Rattle.compact_types.specs.Connected.AreJoined.{start, forward, backward}
+use Rattle.compact_types.proofs.Laws.{relabelled_is, max_and_min}
 use Rattle.bars.specs.Lines.{is_axis, is_along, least_by, least_in_line}
 
 -- joined vertices through a third
@@ -44,21 +45,7 @@ is_axis_other Y Y is same = let e : true ≡ false = is in cc
 merged_is : (least : ℕ → ℕ) (piece : Piece) (v : ℕ) →
     ((least v ≡ max (least piece.from) (least piece.to)) × (merged least piece.from piece.to v ≡ min (least piece.from) (least piece.to))) ⊎
     ((least v ≡ max (least piece.from) (least piece.to) → ⊥) × (merged least piece.from piece.to v ≡ least v))
-merged_is least piece v = by_case (cases_eq (least v) (max (least piece.from) (least piece.to)))
-  where
-    by_case : (least v ≡ max (least piece.from) (least piece.to)) ⊎ (least v ≡ max (least piece.from) (least piece.to) → ⊥) →
-        ((least v ≡ max (least piece.from) (least piece.to)) × (merged least piece.from piece.to v ≡ min (least piece.from) (least piece.to))) ⊎
-        ((least v ≡ max (least piece.from) (least piece.to) → ⊥) × (merged least piece.from piece.to v ≡ least v))
-    by_case (inl same) = inl (same, cond-true _ _ _ (eq-eqb _ _ same))
-    by_case (inr other) = inr (other, cond-false _ _ _ (ne_eqb _ _ other))
-
--- of two numbers one is the greater and the other the less
-max_and_min : (a b : ℕ) → ((max a b ≡ a) × (min a b ≡ b)) ⊎ ((max a b ≡ b) × (min a b ≡ a))
-max_and_min a b = by_order (cases_lt a b)
-  where
-    by_order : (a < b) ⊎ (b ≤ a) → ((max a b ≡ a) × (min a b ≡ b)) ⊎ ((max a b ≡ b) × (min a b ≡ a))
-    by_order (inl less) = inr (omega arith, omega arith)
-    by_order (inr more) = inl (omega arith, omega arith)
+merged_is least piece v = relabelled_is least (max (least piece.from) (least piece.to)) (min (least piece.from) (least piece.to)) v
 
 -- the numbers are the least vertices of the lines that the first n pieces join
 record AreLeast (axis : Axis) (shape : Shape) (n : ℕ) (least : ℕ → ℕ) : Type 0 where

@@ -3,7 +3,7 @@
 -- lines and their numbers
 pub use Rattle.bars.proofs.Joining.{joined_through, joined_back, is_axis_same, is_axis_other, least_below, least_own, least_joins, least_of_joined, joined_from_least}
 pub use Rattle.bars.proofs.Numbering.{count_below, counted, least_from_line, line_from_least, line_below, line_taken, lines_in_order}
-pub use Rattle.bars.proofs.LineTables.{count_below_bound}
+pub use Rattle.bars.proofs.Numbering.{count_below_bound}
 pub use Rattle.bars.proofs.LineEnds.{is_axis_at, end_is_vertex, low_is_vertex, high_is_vertex, in_line_from_number, number_from_in_line, ends_in_line, line_of_low, line_of_high}
 -- pieces along an axis, in places with the ways
 pub use Rattle.bars.proofs.Standing.{GoesAlong, low_of, high_of, coordinate, point_at, along_point, across_point, same_point, other_twice, Spans, low_and_high, end_is, low_is_end, high_is_end, straight, rises, spans_on, on_spans, level_line}

@@ -1,6 +1,6 @@
 -- The numbers of lines, as the code finds them.
-use Rattle.std.proofs.Common.{◌≡◌, ◌≢◌, ℕ, zero, suc, ◌+◌, ◌<◌, ◌≤◌, Bool, true, false, List, [], ◌∷◌, ◌++◌, length, slice_index, if◌then◌else◌, ◌⊎◌, inl, inr, subst, sym, ap, refl, ◌∙◌, arith}
-use Rattle.std.proofs.lemmas.Bool.{cases_lt, cond-true, cond-false, eq-eqb, ne_eqb, cases_Bool}
+use Rattle.std.proofs.Common.{◌≡◌, ◌≢◌, ℕ, suc, ◌+◌, ◌<◌, ◌≤◌, Bool, List, [], ◌∷◌, ◌++◌, length, slice_index, if◌then◌else◌, ◌⊎◌, inl, inr, subst, sym, ap, refl, ◌∙◌, arith}
+use Rattle.std.proofs.lemmas.Bool.{cases_lt, cond-true, cond-false, eq-eqb, ne_eqb}
 use Rattle.std.proofs.lemmas.List.{length_push, get_or_push, get_or_append_left}
 use Rattle.compact_types.specs.declared.places.Axis.{Axis}
 use Rattle.compact_types.specs.declared.plan.Piece.{Piece}
@@ -104,12 +104,3 @@ module _ (axis : Axis) (shape : Shape) (leads : List ℕ) (are : AreLeads axis s
         let moved = ap (count_to (is_least axis shape)) next in
         omega (arith, numbered.counted, step, moved);
   }
-
--- there are no more lines than vertices
-pub count_below_bound : (test : ℕ → Bool) (n : ℕ) → count_to test n ≤ n
-count_below_bound test zero = omega arith
-count_below_bound test (suc n) = by_test (cases_Bool (test n)) (count_below_bound test n)
-  where
-    by_test : (test n ≡ true) ⊎ (test n ≡ false) → count_to test n ≤ n → count_to test (suc n) ≤ suc n
-    by_test (inl passes) before = let e : count_to test (suc n) ≡ suc (count_to test n) = cond-true _ _ _ passes in omega (arith, e, before)
-    by_test (inr fails) before = let e : count_to test (suc n) ≡ count_to test n = cond-false _ _ _ fails in omega (arith, e, before)

@@ -1,25 +1,17 @@
 -- The low and the high node of a segment are nodes.
-use Rattle.std.proofs.Common.{◌≡◌, ℕ, zero, suc, ◌+◌, ◌<◌, ◌≤◌, Bool, false, Option, Some, ◌⊎◌, inl, inr, subst, arith}
-use Rattle.std.specs.List.{find, range_with_len}
-use Rattle.std.specs.Option.{unwrap_or}
+use Rattle.std.proofs.Common.{◌≡◌, ℕ, ◌<◌, false, ◌⊎◌, inl, inr, subst, arith}
 use Rattle.std.proofs.lemmas.Bool.{cond_both}
 use Rattle.compact_types.specs.declared.places.Axis.{Axis}
 use Rattle.compact_types.specs.declared.plan.Shape.{Shape}
 use Rattle.compact_types.specs.Lookups.{other_axis}
 use Rattle.bars.specs.Lines.{is_axis, line_count}
 use Rattle.bars.specs.Segments.{segment_count, segment_at, first_vertex, last_vertex, node_of, node_count, low_node, high_node}
+use Rattle.bars.proofs.Searches.{found_below}
 use Rattle.bars.proofs.Numbering.{line_below}
 use Rattle.bars.proofs.Joining.{is_axis_other}
 use Rattle.bars.proofs.LineEnds.{low_is_vertex}
 use Rattle.bars.proofs.SegmentLists.{segment_line}
 use Rattle.bars.proofs.SegmentEnds.{axis_or_other}
-
--- what is found in a range, or 0, is below a bound of the range
-found_below : (test : ℕ → Bool) (a n bound : ℕ) → 0 < bound → a + n ≤ bound → unwrap_or (find test (range_with_len a n)) 0 < bound
-found_below test a zero bound some fits = some
-found_below test a (suc n) bound some fits =
-    cond_both (test a) (Some a) (find test (range_with_len (a + 1) n)) (λ (found : Option ℕ). unwrap_or found 0 < bound)
-    (λ passes. omega (arith, fits)) (λ fails. found_below test (a + 1) n bound some (omega (arith, fits)))
 
 module _ (axis : Axis) (shape : Shape) (s : ℕ) (within : s < segment_count shape) where
   some_vertex : 0 < shape.plan.vertices

@@ -16,6 +16,16 @@ count_step test n = by_test (cases_Bool (test n))
     by_test (inl passes) = inl (passes, cond-true _ _ _ passes)
     by_test (inr fails) = inr (fails, cond-false _ _ _ fails)
 
+-- a count is at most the bound
+pub count_below_bound : (test : ℕ → Bool) (n : ℕ) → count_to test n ≤ n
+count_below_bound test zero = omega arith
+count_below_bound test (suc n) = by_step (count_step test n) (count_below_bound test n)
+  where
+    by_step : ((test n ≡ true) × (count_to test (suc n) ≡ suc (count_to test n))) ⊎ ((test n ≡ false) × (count_to test (suc n) ≡ count_to test n)) →
+        count_to test n ≤ n → count_to test (suc n) ≤ suc n
+    by_step (inl is) before = omega (arith, is.1, before)
+    by_step (inr is) before = omega (arith, is.1, before)
+
 -- counts grow past a number that passes
 pub count_below : (test : ℕ → Bool) (m n : ℕ) → m < n → test m ≡ true → count_to test m < count_to test n
 count_below test m zero less passes = absurd (omega arith)

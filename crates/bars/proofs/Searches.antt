@@ -2,7 +2,7 @@
 use Rattle.std.proofs.Common.{◌≡◌, ℕ, zero, suc, ◌+◌, ◌<◌, ◌≤◌, ℤ, ◌≤ℤ◌, Bool, true, false, Option, Some, ◌⊎◌, inl, inr, subst, sym, ap, ◌∙◌, arith}
 use Rattle.std.specs.List.{find, list_any, range_with_len}
 use Rattle.std.specs.Option.{unwrap_or}
-use Rattle.std.proofs.lemmas.Bool.{cases_Bool, cases_lt, cond-true, cond-false, both_ways, or_cases, or_left, or_right}
+use Rattle.std.proofs.lemmas.Bool.{cases_Bool, cases_lt, cond_both, cond-true, cond-false, both_ways, or_cases, or_left, or_right}
 use Rattle.std.proofs.lemmas.Int.{ints, by_lt_z}
 
 -- a number of the range that passes
@@ -134,3 +134,10 @@ some_or_none test (suc n) = by_last (cases_Bool (test n)) (some_or_none test n)
         by_order : (v : ℕ) → (v < n) ⊎ (n ≤ v) → v < suc n → test v ≡ true → ⊥
         by_order v (inl before) within passes = none v before passes
         by_order v (inr after) within passes = let same : n ≡ v = omega arith in both_ways (test n) fails (ap test same ∙ passes)
+
+-- what is found in a range, or 0, is below a bound of the range
+pub found_below : (test : ℕ → Bool) (a n bound : ℕ) → 0 < bound → a + n ≤ bound → unwrap_or (find test (range_with_len a n)) 0 < bound
+found_below test a zero bound some fits = some
+found_below test a (suc n) bound some fits =
+    cond_both (test a) (Some a) (find test (range_with_len (a + 1) n)) (λ (found : Option ℕ). unwrap_or found 0 < bound)
+    (λ passes. omega (arith, fits)) (λ fails. found_below test (a + 1) n bound some (omega (arith, fits)))

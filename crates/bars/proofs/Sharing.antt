@@ -19,7 +19,7 @@ use Rattle.bars.specs.inner.Invariant.{AreTables, do_cross}
 use Rattle.bars.specs.inner.Spans.{span_of, spans_along}
 use Rattle.bars.specs.inner.Tables.{AreLines}
 use Rattle.bars.proofs.CrossingTable.{at_below}
-use Rattle.bars.proofs.LineTables.{count_below_bound}
+use Rattle.bars.proofs.Numbering.{count_below_bound}
 use Rattle.bars.proofs.Searches.{any_range, any_range_at}
 use Rattle.bars.proofs.SegmentEnds.{vertex_on}
 use Rattle.bars.proofs.SegmentLists.{lines, IsNumbered, numbered, count_is, segment_line}

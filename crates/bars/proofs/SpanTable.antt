@@ -1,8 +1,7 @@
 -- The spans of the segments, as they are added.
-use Rattle.std.proofs.Common.{◌≡◌, ℕ, zero, suc, ◌+◌, ◌-◌, ◌<◌, ◌≤◌, Bool, true, false, List, [], ◌∷◌, ◌++◌, map, length, slice_index, if◌then◌else◌, ◌⊎◌, inl, inr, sym, ap, ◌∙◌, arith, append_assoc, append-nil, length-append}
-use Rattle.std.specs.List.{filter, find, range_with_len}
-use Rattle.std.specs.Option.{unwrap_or}
-use Rattle.std.proofs.lemmas.Bool.{cases_Bool, cond-true, cond-false}
+use Rattle.std.proofs.Common.{◌≡◌, ℕ, suc, ◌+◌, ◌-◌, ◌<◌, Bool, true, false, List, [], ◌∷◌, ◌++◌, map, length, slice_index, if◌then◌else◌, sym, ap, ◌∙◌, arith, append_assoc, append-nil, length-append}
+use Rattle.std.specs.List.{filter, range_with_len}
+use Rattle.std.proofs.lemmas.Bool.{cond-true, cond-false}
 use Rattle.std.proofs.lemmas.List.{length-map, get_or-map, get_or-append_right, get_or_append_left, map-append}
 use Rattle.std.proofs.lemmas.List.Elements.{filter-append}
 use Rattle.compact_types.specs.declared.places.Axis.{Axis}
@@ -18,6 +17,7 @@ use Rattle.bars.specs.inner.Marks.{AreLineEnds}
 use Rattle.bars.specs.inner.Spans.{span_of, spans_below, spans_along, span_at, AreSpans}
 use Rattle.bars.specs.inner.Tables.{AreLines}
 use Rattle.compact_types.proofs.Laws.{range_push}
+use Rattle.bars.proofs.Searches.{found_below}
 use Rattle.bars.proofs.SegmentLists.{lines, IsNumbered, numbered, count_is}
 use Rattle.bars.proofs.SegmentLists.IsNumbered.{of_row, of_column}
 
@@ -44,18 +44,6 @@ spans_more axis shape n has is =
         ≡ (if b then spans_below axis shape n ++ span_of axis shape n ∷ [] else spans_below axis shape n)
     by_test true holds = ap (λ (l : List ℕ). spans_below axis shape n ++ map (span_of axis shape) l) holds
     by_test false fails = ap (λ (l : List ℕ). spans_below axis shape n ++ map (span_of axis shape) l) fails ∙ append-nil (spans_below axis shape n)
-
--- what is found is a number of the range
-found_below : (test : ℕ → Bool) (a n bound : ℕ) → 0 < bound → a + n ≤ bound → unwrap_or (find test (range_with_len a n)) 0 < bound
-found_below test a zero bound some fits = some
-found_below test a (suc n) bound some fits = by_test (cases_Bool (test a)) (found_below test (a + 1) n bound some (omega (arith, fits)))
-  where
-    by_test : (test a ≡ true) ⊎ (test a ≡ false) → unwrap_or (find test (range_with_len (a + 1) n)) 0 < bound →
-        unwrap_or (find test (range_with_len a (suc n))) 0 < bound
-    by_test (inl holds) rest = let e : unwrap_or (find test (range_with_len a (suc n))) 0 ≡ a = ap (λ o. unwrap_or o 0) (cond-true _ _ _ holds) in omega (arith, e, fits)
-    by_test (inr fails) rest =
-        let e : unwrap_or (find test (range_with_len a (suc n))) 0 ≡ unwrap_or (find test (range_with_len (a + 1) n)) 0 = ap (λ o. unwrap_or o 0) (cond-false _ _ _ fails) in
-        omega (arith, e, rest)
 
 pub first_below : (axis : Axis) (shape : Shape) (line : ℕ) → 0 < shape.plan.vertices → first_vertex axis shape line < shape.plan.vertices
 first_below axis shape line some = found_below _ 0 shape.plan.vertices shape.plan.vertices some (omega arith)

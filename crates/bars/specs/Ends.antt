@@ -1,4 +1,4 @@
--- Which vertex of a line stands first and which last, and what the low and the high node of a segment are.
+-- Which vertex of a line is first and which last, and what the low and the high node of a segment are.
 use Rattle.std.specs.Prelude.{◌≡◌, ℕ, ◌<◌, ◌≤ℤ◌}
 use Rattle.compact_types.specs.declared.places.Axis.{Axis}
 use Rattle.compact_types.specs.declared.places.Places.{Places}

@@ -1,4 +1,4 @@
--- Rows and columns: vertices joined by pieces along an axis stand in one line along it. A row is a
+-- Rows and columns: vertices joined by pieces along an axis are in one line along it. A row is a
 -- line along X, a column a line along Y.
 use Rattle.std.specs.Prelude.{ℕ, zero, suc, Bool, true, false, ◌==◌, length, if◌then◌else◌}
 use Rattle.compact_types.specs.declared.places.Axis.{Axis}

@@ -72,13 +72,13 @@ has_piece_after axis shape v =
     list_any (λ i. is_along axis shape i && (low_end (way_at shape.ways i) (piece_at shape.plan.pieces i) == v))
     (range_with_len 0 (length shape.plan.pieces))
 
--- the western or the lower end vertex of a line: none of its pieces comes to it from before
+-- the western or the lower end vertex of a line: no piece of the line comes to it from before
 abbrev pub first_vertex : Axis → Shape → ℕ → ℕ
 first_vertex axis shape line =
     unwrap_or (find (λ v. (line_of axis shape v == line) && not (has_piece_before axis shape v))
     (range_with_len 0 shape.plan.vertices)) 0
 
--- the eastern or the higher end vertex of a line: none of its pieces goes on from it
+-- the eastern or the higher end vertex of a line: no piece of the line goes on from it
 abbrev pub last_vertex : Axis → Shape → ℕ → ℕ
 last_vertex axis shape line =
     unwrap_or (find (λ v. (line_of axis shape v == line) && not (has_piece_after axis shape v))
@@ -92,7 +92,7 @@ node_of axis shape v = line_of (other_axis axis) shape v
 abbrev pub node_count : Axis → Shape → ℕ
 node_count axis shape = line_count (other_axis axis) shape
 
--- the node that stands first of a segment in the graph of an axis: that of its first vertex where the
+-- the node that is first of a segment in the graph of an axis: that of its first vertex if the
 -- segment goes along the axis, and else the segment itself
 abbrev pub low_node : Axis → Shape → ℕ → ℕ
 low_node axis shape s =
@@ -100,7 +100,7 @@ low_node axis shape s =
     then node_of axis shape (first_vertex axis shape (segment_at shape s).line)
     else (segment_at shape s).line
 
--- the node that stands last of it
+-- the node that is last of it
 abbrev pub high_node : Axis → Shape → ℕ → ℕ
 high_node axis shape s =
     if is_axis (segment_at shape s).axis axis

@@ -1,4 +1,4 @@
-//! In which row and column each vertex stands, as a table.
+//! In which row and column each vertex is, as a table.
 
 ghost use Rattle.std.specs.Prelude.{◌≡◌, ℕ, ◌<◌, ◌+◌, ◌*◌, length, slice_index, slice_set, true};
 ghost use Rattle.std.specs.Prelude.{IfOk};
@@ -8,7 +8,7 @@ use crate::lines::Lines;
 use compact_types::NoMemory;
 use std::alloc::Global;
 
-/// The row-major table of all rows and columns, with a mark where a row and a column have a vertex
+/// The row-major table of all rows and columns, with a mark if a row and a column have a vertex
 /// in common.
 pub(crate) fn crossings_of(
     alloc: Global,

@@ -14,8 +14,8 @@ ghost use Rattle.bars.specs.Segments.{first_vertex, last_vertex, node_count, low
 ghost use Rattle.bars.specs.Ends.{StandsFirst, StandsLast, IsLowNode, IsHighNode};
 ghost use Rattle.bars.specs.Solutions.{HasDrawing};
 
-/// Vertices are in one row, or in one column, exactly where they have one number. The numbers go
-/// up with the least vertices of the lines, and none is left out. There are at most as many lines
+/// Vertices are in one row, or in one column, exactly if they have one number. The numbers go
+/// up with the least vertices of the lines, and no number is left out. There are at most as many lines
 /// as vertices.
 pub fn lines_are_numbered()
     ensures by_least { (axis : Axis) (shape : Shape) (v w : ℕ) →
@@ -35,9 +35,8 @@ pub fn lines_are_numbered()
         (v : ℕ) × (v < shape.plan.vertices) × (line_of axis shape v ≡ line) }
 {}
 
-/// Where every piece has its way, the vertices of a line are level across its axis. In a shape
-/// that has a drawing they stand in one strict order along it, the same in all places with the
-/// ways.
+/// If every piece has its way, the vertices of a line are level across its axis. In a shape
+/// that has a drawing they are in one strict order along it, the same in all places with the ways.
 pub fn lines_stand_in_order()
     ensures level { (axis : Axis) (shape : Shape) (places : Places) (v w : ℕ) →
         HasWays shape places → AreInLine axis shape v w →

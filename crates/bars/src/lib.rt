@@ -2,7 +2,7 @@
 //!
 //! The layer above relies on the definitions in `specs/`: the numbering of rows, columns and
 //! segments, the four sides of a pair, and which places solve a list of choices. The laws say what
-//! they mean in drawings. `bars_of` keeps the tables, and each look-up answers what the definition
+//! they mean in drawings. `bars_of` keeps the tables, and each look-up returns what the definition
 //! of the same name says of the shape. `bars_of_points` makes small drawings for tests.
 #![tactic(auto)]
 

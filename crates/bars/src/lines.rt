@@ -65,7 +65,7 @@ fn join_along(leads: &mut [u32], shape: &Shape, axis: Axis)
     }
 }
 
-/// Makes one group of the ends of the piece, where it is `along`.
+/// Makes one group of the ends of the piece if it is `along`.
 fn join_if(leads: &mut [u32], piece: Piece, along: bool)
     requires from { piece.from < length leads.old }
     requires to { piece.to < length leads.old }

@@ -1,4 +1,4 @@
-//! Which lines have a piece, and which vertices stand at their ends.
+//! Which lines have a piece, and which vertices are their ends.
 
 ghost use Rattle.std.specs.Prelude.{◌≡◌, ℕ, ◌<◌, length, slice_index, slice_set, true, IfOk, cond};
 ghost use Rattle.bars.specs.inner.Marks.{AreMarks, AreFirstUnmarked, AreLineEnds};
@@ -77,7 +77,7 @@ fn marks_of(alloc: Global, shape: &Shape, axis: Axis, lines: &Lines) -> Result<P
     })
 }
 
-/// Marks the number, where the piece goes `along`.
+/// Marks the number if the piece goes `along`.
 fn mark_if(marks: &mut [bool], number: u32, along: bool)
     requires { number < length marks.old }
     ensures { marks.new ≡ cond along (slice_set marks.old number true) marks.old }

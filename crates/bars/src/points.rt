@@ -45,7 +45,7 @@ pub fn bars_of_points(
     Ok(Some((bars, places)))
 }
 
-/// The shape of the plan in these places; `None` exactly if it has none.
+/// The shape of the plan in these places; `None` exactly if there is not one.
 fn shape_at(alloc: Global, plan: &Plan, places: &Places) -> Result<Option<Shape>, NoMemory>
     requires { CanCheck plan.now places.now }
     ensures { IfOk result (λ found. MatchOption found

@@ -49,7 +49,7 @@ pub(crate) fn add_spans(
     Ok(())
 }
 
-/// Adds the span, where its line has a piece.
+/// Adds the span if its line has a piece.
 fn push_if(spans: &mut Vec<Span>, span: Span, has_piece: bool) -> Result<(), NoMemory>
     ensures { OnOk result (spans.new.items
         ≡ cond has_piece (spans.old.items ++ span ∷ []) spans.old.items) }

@@ -1,7 +1,7 @@
 -- Numbers in groups, and what a join does to their labels.
 use Rattle.std.proofs.Common.{◌≡◌, ℕ, ◌<◌, ◌≤◌, ◌==◌, List, length, slice_index, set, min, max, if◌then◌else◌, ◌⊎◌, inl, inr, subst, sym, ap, ◌∙◌, arith, get_or-set_same, get_or-set_other}
 use Rattle.std.proofs.Math.ListN.{length-set}
-use Rattle.std.proofs.lemmas.Bool.{cases_eq, cond-true, cond-false, eq-eqb, ne_eqb}
+use Rattle.std.proofs.lemmas.Bool.{cases_eq, cases_lt, cond-true, cond-false, eq-eqb, ne_eqb}
 use Rattle.compact_types.specs.Groups.{GoDown, IsLabelling, merged}
 
 -- what is read after a write
@@ -52,7 +52,7 @@ labelling_halved leads labels v inside down labelling =
     labelling_moved leads labels v (slice_index leads next) inside (labelling.on next next_inside ∙ labelling.on v inside)
     (λ same. labelling.ends v inside (omega (arith, same, below, further_below))) labelling
 
--- labels where all of the group high have the label low
+-- the labels once all of the group high have the label low
 abbrev pub relabelled : (ℕ → ℕ) → ℕ → ℕ → ℕ → ℕ
 relabelled labels high low v = if labels v == high then low else labels v
 
@@ -69,6 +69,14 @@ relabelled_is labels high low v = by_label (cases_eq (labels v) high)
 -- equal labels stay equal
 pub relabelled_same : (labels : ℕ → ℕ) (high low v w : ℕ) → labels v ≡ labels w → relabelled labels high low v ≡ relabelled labels high low w
 relabelled_same labels high low v w same = ap (λ (label : ℕ). if label == high then low else label) same
+
+-- of two numbers one is the greater and the other the less
+pub max_and_min : (a b : ℕ) → ((max a b ≡ a) × (min a b ≡ b)) ⊎ ((max a b ≡ b) × (min a b ≡ a))
+max_and_min a b = by_order (cases_lt a b)
+  where
+    by_order : (a < b) ⊎ (b ≤ a) → ((max a b ≡ a) × (min a b ≡ b)) ⊎ ((max a b ≡ b) × (min a b ≡ a))
+    by_order (inl less) = inr (omega arith, omega arith)
+    by_order (inr more) = inl (omega arith, omega arith)
 
 -- a group that is led to a lesser one takes its label
 pub labelling_led : (leads : List ℕ) (labels : ℕ → ℕ) (high low : ℕ) → high < length leads → labels high ≡ high → labels low ≡ low →

@@ -19,7 +19,7 @@ pub use Rattle.compact_types.proofs.Multiples.{times-sub, times-le_pos, times-le
 -- ranges of numbers
 pub use Rattle.compact_types.proofs.RangeLemmas.{range_push}
 -- labels of groups
-pub use Rattle.compact_types.proofs.GroupLemmas.{relabelled, relabelled_is, relabelled_same}
+pub use Rattle.compact_types.proofs.GroupLemmas.{relabelled, relabelled_is, relabelled_same, max_and_min}
 -- the order of keys, and the best drawing
 pub use Rattle.compact_types.proofs.OneBest.{compare_numbers, one_best}
 pub use Rattle.compact_types.proofs.OrderLemmas.{list_not_before_itself, list_before_trans, not_before_itself, before_trans, same_key, before_or_equal}

@@ -127,7 +127,7 @@ module _ (k : ℤ) (some : pos 1 ≤ℤ k) (plan : Plan) (places scaled : Places
       IsBetween (along axis (begin_of plan places j)) (along axis (end_of plan places j)) z → Around axis i j z
   around axis i j z on_i on_j = around_both k _ _ _ _ z some (between_ends axis i z on_i) (between_ends axis j z on_j)
 
-  -- a vertex that stands at both numbers stands at z, k times farther out
+  -- a vertex that is at both numbers is at z, k times farther out
   stands_at : (v : ℕ) (axis : Axis) (a b c d z : ℤ) (are : AreAround k a b c d z) → along axis (place scaled.xy v) ≡ are.low → along axis (place scaled.xy v) ≡ are.high →
       along axis (place places.xy v) ≡ z
   stands_at v axis a b c d z are at_low at_high =

@@ -227,7 +227,7 @@ one_scaled by places p q positive to_p to_q =
     by_axis : (axis : Axis) (v : ℕ) → along axis (place p.xy v) ≡ along axis (place q.xy v)
     by_axis axis v = same_factor by _ _ positive (sym (coordinate-scaled by places p to_p axis v) ∙ coordinate-scaled by places q to_q axis v)
 
--- scaled, or a first vertex that stands in the way
+-- scaled, or a first vertex off the grid
 pub scaled_not_off : (by : ℤ) (places scaled : Places) (v : ℕ) → IsScaled by places scaled → IsFirstOff by places v → ⊥
 scaled_not_off by places scaled v is first =
     first.off.1 (along first.off.0 (place scaled.xy v), coordinate-scaled by places scaled is first.off.0 v)

@@ -16,7 +16,7 @@ use Rattle.compact_types.specs.Sums.{sum_to}
 abbrev pub DifferInOne : Point → Point → Type 0
 DifferInOne a b = ((a.x ≡ b.x → ⊥) × (a.y ≡ b.y)) ⊎ ((a.x ≡ b.x) × (a.y ≡ b.y → ⊥))
 
--- the first point stands before the second along the axis, and level with it across
+-- the first point is before the second along the axis, and level with it across
 pub record IsStraight (axis : Axis) (low high : Point) : Type 0 where
   pub before : (along axis low) <ℤ (along axis high)
   pub level : along (other_axis axis) low ≡ along (other_axis axis) high

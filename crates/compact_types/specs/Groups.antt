@@ -1,4 +1,4 @@
--- Numbers in groups: each leads to one that is not greater, and at the end of that walk stands the
+-- Numbers in groups: each leads to one that is not greater, and at the end of that walk is the
 -- least number of its group.
 use Rattle.std.specs.Prelude.{◌≡◌, ℕ, ◌<◌, ◌≤◌, List, length, slice_index, min, max, if◌then◌else◌, ◌==◌}
 

@@ -7,7 +7,7 @@ use Rattle.compact_types.specs.declared.plan.Piece.{Piece}
 use Rattle.compact_types.specs.declared.plan.Way.{Way}
 use Rattle.compact_types.specs.declared.plan.Way.TheVariants.{East, West, High, Low}
 
--- the point, piece and way that stand for one that is not there
+-- the point, piece and way that are taken for one that is not there
 abbrev pub origin : Point
 origin = record { x = pos 0; y = pos 0 }
 

@@ -3,7 +3,7 @@ use Rattle.std.specs.Prelude.{◌≡◌}
 use Rattle.compact_types.specs.declared.refusal.Refusal.{Refusal}
 use Rattle.compact_types.specs.declared.refusal.Refusal.TheVariants.{Fault, NoMemory}
 
--- what holds of the fault, where the refusal has one
+-- what holds of the fault, if the refusal has one
 abbrev pub ForFault : {F : Type 0} → Refusal F → (F → Type 0) → Type 0
 ForFault {F} refusal P = (fault : F) → refusal ≡ Fault fault → P fault
 

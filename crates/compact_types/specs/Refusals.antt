@@ -1,9 +1,9 @@
--- What an answer says when memory may be refused.
+-- What a result says when memory may be refused.
 use Rattle.std.specs.Prelude.{◌≡◌, ◌⊎◌, Result, Ok, Err, IfOk}
 use Rattle.compact_types.specs.declared.refusal.Refusal.{Refusal}
 use Rattle.compact_types.specs.declared.refusal.Refusal.TheVariants.{Fault, NoMemory}
 
--- what holds of the value, of the fault, or where memory was refused
+-- what holds of the value, of the fault, or if memory was refused
 abbrev pub MatchRefusal : {T F : Type 0} →
     Result T (Refusal F) → (T → Type 0) → (F → Type 0) → Type 0 → Type 0
 MatchRefusal (Ok value) P Q R = P value
@@ -16,13 +16,13 @@ Gives (Ok value) expected = expected ≡ Ok value
 Gives (Err (Fault fault)) expected = expected ≡ Err fault
 Gives (Err NoMemory) expected = Unit {0}
 
--- what holds of the fault, where the answer is one
+-- what holds of the fault, if there is one
 abbrev pub IfFault : {T F : Type 0} → Result T (Refusal F) → (F → Type 0) → Type 0
 IfFault (Ok value) P = Unit {0}
 IfFault (Err (Fault fault)) P = P fault
 IfFault (Err NoMemory) P = Unit {0}
 
--- The answer is exact: a value of which P holds or a fault of which Q holds, and where P holds of a
+-- The answer is exact: a value of which P holds or a fault of which Q holds, and if P holds of a
 -- value or Q of a fault, that is the answer; unless memory was refused.
 pub record Decides {T F : Type 0}
     (result : Result T (Refusal F)) (P : T → Type 0) (Q : F → Type 0) : Type 0 where

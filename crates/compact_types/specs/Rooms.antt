@@ -6,7 +6,7 @@ pub record WithRoom (T : Type 0) : Type 0 where
   pub items : List T
   pub room : ℕ
 
--- no value yet, and so much room
+-- no value yet, and this much room
 abbrev pub with_room : {T : Type 0} → ℕ → WithRoom T
 with_room room = record { items = []; room = room }
 

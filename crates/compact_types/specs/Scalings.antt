@@ -1,4 +1,4 @@
--- Places that are scaled down, and the first vertex that stands in the way.
+-- Places that are scaled down, and the first vertex off the grid.
 use Rattle.std.specs.Prelude.{◌≡◌, ℕ, ◌<◌, ℤ, ◌*ℤ◌, length}
 use Rattle.compact_types.specs.declared.places.Axis.{Axis}
 use Rattle.compact_types.specs.declared.places.Point.{Point}
@@ -13,7 +13,7 @@ IsMultiple by z = (k : ℤ) × (z ≡ by *ℤ k)
 abbrev pub IsOnGrid : ℤ → Point → Type 0
 IsOnGrid by point = (axis : Axis) → IsMultiple by (along axis point)
 
--- the point has a coordinate that is no multiple of `by`
+-- the point has a coordinate that is not a multiple of `by`
 abbrev pub IsOffGrid : ℤ → Point → Type 0
 IsOffGrid by point = (axis : Axis) × (IsMultiple by (along axis point) → ⊥)
 
@@ -23,7 +23,7 @@ pub record IsScaled (by : ℤ) (places scaled : Places) : Type 0 where
   pub each : (axis : Axis) (v : ℕ) → v < length places.xy →
       along axis (place places.xy v) ≡ by *ℤ along axis (place scaled.xy v)
 
--- the least vertex with a coordinate that is no multiple of `by`
+-- the least vertex with a coordinate that is not a multiple of `by`
 pub record IsFirstOff (by : ℤ) (places : Places) (vertex : ℕ) : Type 0 where
   pub inside : vertex < length places.xy
   pub off : IsOffGrid by (place places.xy vertex)

@@ -47,9 +47,9 @@ pub fn high_end(way: Way, piece: Piece) -> u32
     }
 }
 
-/// A piece has a way exactly where one coordinate of its ends differs, and then it has one alone.
-/// It has this way exactly where its low end stands before its high end along the way's axis, and
-/// level with it across.
+/// A piece has a way exactly if one coordinate of its ends differs, and then it has one alone. It
+/// has this way exactly if its low end is before its high end along the way's axis, and level with
+/// it across.
 pub fn ways_by_axes()
     ensures some { (a b : AnyPoint) → DifferInOne a b ↔ ((way : AnyWay) × HasWay way a b) }
     ensures only { (v w : AnyWay) (a b : AnyPoint) → HasWay v a b → HasWay w a b → v ≡ w }

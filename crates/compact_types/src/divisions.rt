@@ -1,4 +1,4 @@
-//! A drawing is scaled down, where its coordinates allow it.
+//! A drawing is scaled down if its coordinates allow it.
 
 ghost use Rattle.std.specs.Prelude.{◌≡◌, ℕ, ◌<◌, ◌^◌, pos, ◌*ℤ◌, ◌≤ℤ◌, length};
 ghost use Rattle.std.specs.Prelude.{◌↔◌, IfErr, IsTrue, MatchBool, MatchOption, OnErr, OnOk};
@@ -8,8 +8,8 @@ ghost use Rattle.compact_types.specs.Scalings.{IsScaled, IsFirstOff};
 
 use crate::places::{Places, Point};
 
-/// Divides every coordinate by `by`, where each is a multiple of it. Otherwise answers the least
-/// vertex with a coordinate that is none, and changes nothing. It takes no memory.
+/// Divides every coordinate by `by` if each is a multiple of it. Otherwise returns the first vertex
+/// with a coordinate that is not a multiple of `by`, and changes nothing. It takes no memory.
 pub fn scale_down(places: &mut Places, by: i64) -> Result<(), u32>
     requires positive { pos 1 ≤ℤ by }
     requires few { length places.old.xy < 2 ^ 32 }
@@ -24,7 +24,7 @@ pub fn scale_down(places: &mut Places, by: i64) -> Result<(), u32>
     Ok(())
 }
 
-/// The least vertex with a coordinate that is no multiple of `by`.
+/// The first vertex with a coordinate that is not a multiple of `by`.
 fn first_off(places: &Places, by: i64) -> Option<u32>
     requires positive { pos 1 ≤ℤ by }
     requires few { length places.now.xy < 2 ^ 32 }

@@ -1,5 +1,5 @@
 //! Numbers in groups (disjoint sets): each leads to one that is not greater, and at the end of that
-//! walk stands the least number of its group.
+//! walk is the least number of its group.
 
 ghost use Rattle.std.specs.Prelude.{◌≡◌, ℕ, ◌<◌, length, slice_index, IfOk};
 ghost use Rattle.compact_types.specs.Groups.{GoDown, IsLabelling, merged};

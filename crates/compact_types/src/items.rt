@@ -54,7 +54,7 @@ impl<T> Items<T> {
         self.items.len()
     }
 
-    /// Whether the list has no value.
+    /// Whether the list is empty.
     pub fn is_empty(&self) -> bool
         ensures { IsTrue result ↔ (self.now ≡ []) }
     {
@@ -77,7 +77,7 @@ impl<T> Items<T> {
         self.items.get_mut(place)
     }
 
-    /// Takes the last value off; `None` exactly where the list is empty.
+    /// Takes the last value off; `None` exactly if the list is empty.
     pub fn pop(&mut self) -> Option<T>
         ensures { MatchOption result
             ((self.old ≡ []) × (self.new ≡ []))
@@ -95,7 +95,7 @@ impl<T> Items<T> {
 }
 
 impl<T: Drop> Items<T> {
-    /// Puts `value` at `place`; the value that stood there is let go.
+    /// Puts `value` at `place`; the value that was there is let go.
     pub fn set(&mut self, place: usize, value: T)
         requires { place < length self.old }
         ensures { self.new ≡ slice_set self.old place value }

@@ -2,8 +2,8 @@
 //! and the choices and flows of a search.
 //!
 //! The layer above relies on the definitions in `specs/`: what a drawing is, how long it is, which
-//! drawing is best, and what an answer with a refusal says; and on their laws, which stand here as
-//! functions with an empty body, and as lemmas in `proofs/Laws.antt`.
+//! drawing is best, and what a result with a refusal says; and on their laws, which are functions
+//! with an empty body, and as lemmas in `proofs/Laws.antt`.
 #![tactic(auto)]
 
 mod axes;

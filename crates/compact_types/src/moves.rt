@@ -10,8 +10,8 @@ ghost use Rattle.compact_types.specs.Lengths.{distance, plain_length_of, length_
 ghost use Rattle.compact_types.specs.Lookups.{place, along};
 ghost use Rattle.compact_types.specs.Moves.{moved_point, moved};
 
-/// What stays where all points are moved alike: that they are a drawing, its lengths, and how far
-/// each vertex stands from each other.
+/// What stays if all points are moved alike: that they are a drawing, its lengths, and how far
+/// each vertex is from each other.
 pub fn moves_keep_drawings()
     ensures crossing_free { (shape : Shape) (places : Places) (dx dy : ℤ) →
         IsCrossingFree shape places → IsCrossingFree shape (moved dx dy places) }

@@ -60,7 +60,7 @@ impl<T> Reserved<T> {
         self.items.len()
     }
 
-    /// Whether the list has no value.
+    /// Whether the list is empty.
     pub fn is_empty(&self) -> bool
         ensures { IsTrue result ↔ (self.now.items ≡ []) }
     {
@@ -90,7 +90,7 @@ impl<T> Reserved<T> {
         self.items.get_mut(place)
     }
 
-    /// Adds `value` at the end, where there is room. It takes no memory.
+    /// Adds `value` at the end. There has to be room. It takes no memory.
     pub fn push(&mut self, value: T)
         requires { 0 < self.old.room }
         ensures { self.new ≡ with_more self.old (value ∷ []) }
@@ -98,7 +98,7 @@ impl<T> Reserved<T> {
         self.items.push_reserved(value);
     }
 
-    /// Takes the last value off, whose room is left then; `None` exactly where the list is empty.
+    /// Takes the last value off, whose room is left then; `None` exactly if the list is empty.
     pub fn pop(&mut self) -> Option<T>
         ensures { MatchOption result
             ((self.old.items ≡ []) × (self.new ≡ self.old))
@@ -117,7 +117,7 @@ impl<T> Reserved<T> {
 }
 
 impl<T: Copy> Reserved<T> {
-    /// Adds `values` at the end, in their order, where there is room. It takes no memory.
+    /// Adds `values` at the end, in their order. There has to be room for them. It takes no memory.
     pub fn extend_from_slice(&mut self, values: &[T])
         requires { length values.now ≤ self.old.room }
         ensures { self.new ≡ with_more self.old values.now }

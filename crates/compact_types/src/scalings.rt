@@ -31,7 +31,7 @@ pub fn scaled_lengths()
         IsScaled by places scaled → length_of plan places ≡ by *ℤ length_of plan scaled }
 {}
 
-/// Places are from zero exactly where the scaled ones are.
+/// Places are from zero exactly if the scaled ones are.
 pub fn scaled_from_zero()
     ensures { (by : ℤ) (places scaled : Places) → pos 1 ≤ℤ by →
         IsScaled by places scaled → IsFromZero places ↔ IsFromZero scaled }

@@ -5,7 +5,7 @@ ghost use Rattle.std.specs.Prelude.{◌≡◌, IfOk};
 use crate::items::Items;
 use crate::refusal::NoMemory;
 
-/// That one segment of a pair stands on one side of the other, by at least one grid step: side 0
+/// That one segment of a pair is on one side of the other, by at least one grid step: side 0
 /// has `s` west of `t`, side 1 east, side 2 below and side 3 above (Klau and Mutzel's separation
 /// of two segments).
 #[derive(Clone, Copy, Debug, PartialEq, Eq)]

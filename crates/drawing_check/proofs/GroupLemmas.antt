@@ -1,11 +1,11 @@
 -- Groups of vertices, and which vertices are joined.
-use Rattle.std.proofs.Common.{Option, Some, None, MatchOption, ◌≡◌, ◌≢◌, ℕ, zero, suc, ◌+◌, ◌<◌, ◌≤◌, ◌==◌, List, length, slice_index, min, max, if◌then◌else◌, ◌⊎◌, inl, inr, subst, sym, ap, refl, ◌∙◌, arith}
+use Rattle.std.proofs.Common.{Option, Some, None, MatchOption, ◌≡◌, ◌≢◌, ℕ, zero, suc, ◌+◌, ◌<◌, ◌≤◌, List, length, slice_index, min, max, ◌⊎◌, inl, inr, subst, sym, refl, ◌∙◌, arith}
 use Rattle.std.proofs.lemmas.Bool.{cases_eq, cases_lt}
 use Rattle.compact_types.specs.declared.plan.Plan.{Plan}
 use Rattle.compact_types.specs.Lookups.{piece_at}
 use Rattle.compact_types.specs.Connected.{IsJoined, IsConnected}
 use Rattle.compact_types.specs.Connected.AreJoined.{start, forward, backward}
-use Rattle.compact_types.proofs.Laws.{relabelled, relabelled_is, relabelled_same}
+use Rattle.compact_types.proofs.Laws.{relabelled_is, relabelled_same, max_and_min}
 use Rattle.drawing_check.specs.Faults.{IsFirstApart}
 use Rattle.compact_types.specs.Groups.{GoDown, IsLabelling, merged}
 use Rattle.drawing_check.specs.inner.Groups.{BothJoined, AreLabels, AreGroups, IsSecondLeast}
@@ -18,14 +18,6 @@ both_through plan u v w first second = (λ joined. second.0 (first.0 joined), λ
 
 both_at : (plan : Plan) (u v w : ℕ) → v ≡ w → BothJoined plan u v → BothJoined plan u w
 both_at plan u v w same both = subst (λ (x : ℕ). BothJoined plan u x) same both
-
--- of two numbers one is the greater and the other the less
-max_and_min : (a b : ℕ) → ((max a b ≡ a) × (min a b ≡ b)) ⊎ ((max a b ≡ b) × (min a b ≡ a))
-max_and_min a b = by_order (cases_lt a b)
-  where
-    by_order : (a < b) ⊎ (b ≤ a) → ((max a b ≡ a) × (min a b ≡ b)) ⊎ ((max a b ≡ b) × (min a b ≡ a))
-    by_order (inl less) = inr (omega arith, omega arith)
-    by_order (inr more) = inl (omega arith, omega arith)
 
 module _ (plan : Plan) (i : ℕ) (inside : i < length plan.pieces) (labels : ℕ → ℕ) (groups : AreLabels plan i labels) where
   -- the labels of the ends of piece i

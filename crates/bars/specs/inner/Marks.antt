@@ -9,7 +9,7 @@ use Rattle.bars.specs.declared.marks.PieceMarks.{PieceMarks}
 use Rattle.bars.specs.Lines.{line_count}
 use Rattle.bars.specs.Segments.{has_piece, has_piece_before, has_piece_after, first_vertex, last_vertex}
 
--- each number is marked where one of the numbers below n that are used stands at it
+-- each number is marked exactly if one of the numbers below n that are used is at it
 pub record AreMarked (is_used : ℕ → Bool) (at : ℕ → ℕ) (n : ℕ) (marks : List Bool) : Type 0 where
   pub each : (k : ℕ) → k < length marks →
       slice_index_or marks k false ≡ list_any (λ i. is_used i && (at i == k)) (range_with_len 0 n)
@@ -26,7 +26,7 @@ pub record AreMarks (axis : Axis) (shape : Shape) (marks : PieceMarks) : Type 0 
   pub after : (v : ℕ) → v < shape.plan.vertices →
       slice_index_or marks.after.items v false ≡ has_piece_after axis shape v
 
--- the first of the n vertices from a on that are in the line and not marked; 0 where there is none
+-- the first of the n vertices from a on that are in the line and not marked; 0 if there is none
 abbrev pub first_unmarked_in : Lines → List Bool → ℕ → ℕ → ℕ → ℕ
 first_unmarked_in lines marked a n line =
     unwrap_or (find (λ v. (slice_index lines.of.items v == line) && not (slice_index_or marked v false))

@@ -1,4 +1,4 @@
-//! Shapes of small drawings, and what the look-ups answer.
+//! The lines, spans and pairs of small drawings.
 
 use super::Bars;
 use crate::points::bars_of_points;
@@ -27,7 +27,7 @@ fn spans_of(alloc: Global, bars: &Bars) -> Result<Vec<[u32; 4]>, NoMemory> {
     Ok(spans)
 }
 
-/// The pairs of segments that share no vertex.
+/// The pairs of segments that do not share a vertex.
 fn pairs_of(alloc: Global, bars: &Bars) -> Result<Vec<(u32, u32)>, NoMemory> {
     let mut pairs = Vec::new(alloc);
     for t in 0..bars.bars() {
@@ -61,8 +61,8 @@ fn assert_bars(rt: &impl Abort, alloc: Global, case: &Case) -> Result<(), Fail> 
 #[test]
 fn numbers_of_small_drawings(rt: HostRuntime) -> Result<(), Fail> {
     let cases = [
-        // A spine with an arm at each end, of which the lower one turns up: the row of its end has
-        // no piece.
+        // A spine with an arm at each end, of which the lower one turns up: the row of its end does
+        // not have a piece.
         Case {
             points: &[(0, 0), (0, 10), (20, 0), (20, 5), (10, 10)],
             ends: &[(0, 1), (0, 2), (2, 3), (1, 4)],

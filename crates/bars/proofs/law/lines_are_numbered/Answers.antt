@@ -1,7 +1,7 @@
 use Rattle.bars.proofs.Joining.{least_of_joined, joined_from_least, least_below, least_joins}
 use Rattle.bars.specs.Lines.{is_least}
 use Rattle.bars.proofs.Numbering.{line_below, line_taken, lines_in_order}
-use Rattle.bars.proofs.LineTables.{count_below_bound}
+use Rattle.bars.proofs.Numbering.{count_below_bound}
 use Rattle.bars.proofs.LineEnds.{number_from_in_line, in_line_from_number}
 use Rattle.bars.proofs.law.lines_are_numbered.Goals as goal
 
