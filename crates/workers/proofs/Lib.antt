@@ -1,4 +1,4 @@
+mod BranchLemmas
 mod EndLemmas
 mod FirstLemmas
-mod PairLemmas
 mod TurnLemmas

@@ -1,5 +1,5 @@
 -- What a turn leaves: nothing is held, and less work is left.
-use Rattle.std.proofs.Common.{◌≡◌, ℕ, zero, suc, ◌+◌, ◌-◌, ◌<◌, ◌≤◌, List, [], ◌∷◌, length, ◌⊎◌, inl, inr, refl, sym, ap, ◌∙◌, subst, count_by, arith}
+use Rattle.std.proofs.Common.{◌≡◌, ℕ, zero, suc, ◌+◌, ◌-◌, ◌<◌, ◌≤◌, List, [], ◌∷◌, length, ◌⊎◌, inl, inr, refl, sym, ap, ◌∙◌, subst, count_by, Option, Some, None, MatchOption, arith}
 use Rattle.std.specs.Prelude.{slice_index_or, slice_set}
 use Rattle.std.proofs.lemmas.Bool.{cases_eq, cases_lt}
 use Rattle.std.proofs.lemmas.List.{length-set, get_or_append_left, get_or-append_right, get_or_past, get_or-set_same, get_or-set_other}
@@ -19,9 +19,9 @@ use Rattle.board.specs.declared.standings.Standing.TheVariants.{Waiting, Held, D
 use Rattle.board.specs.Boards.{BoardView, board_state, opened_board, enlisted, after_claim, after_settle, IsCaller, IsLatestWaiting, NoneWaits}
 use Rattle.board.specs.Facts.{AreFacts}
 use Rattle.board.specs.Histories.{State, opened, after, branch_count, choices_of, standing_of, standings_opened, open_count_of, is_open, IsWaiting, IsHeldBy, Fits}
-use Rattle.board.specs.Verdicts.{IsSoundVerdict}
+use Rattle.board.specs.Verdicts.{IsBranchPairFor, IsSoundVerdict}
 use Rattle.board.specs.Works.{work_left}
-use Rattle.workers.specs.inner.Turns.{IsBetweenTurns, IsAfterTurn, IsSettledBy, most_pairs, work_ahead}
+use Rattle.workers.specs.inner.Turns.{IsBetweenTurns, IsAfterTurn, most_pairs, work_ahead}
 use Rattle.board.proofs.Laws.{all_fit-append, state_with, work_stays, work_falls, few_choices_of}
 
 -- a branch that stands otherwise than done is one of the branches
@@ -120,6 +120,18 @@ sound_on_board objective Backs board shape same_shape choices others same_choice
     subst (λ (s : Shape). IsSoundVerdict objective Backs s choices verdict) (sym same_shape)
     (subst (λ (cs : List Choice). IsSoundVerdict objective Backs shape cs verdict) (sym same_choices) sound)
 
+-- a proof to begin with, if there is one
+pub start_from : {X : Type 0} (start : Option X) (None_ : Type 0) (Backs : X → Type 0) → MatchOption start None_ Backs → MatchOption start (Unit {0}) Backs
+start_from None None_ Backs none = tt
+start_from (Some proof) None_ Backs backs = backs
+
+-- and so is the pair
+pub pair_on_board : {P : Type 0} (board : BoardView P) (shape : Shape) → board.shape ≡ shape → (choices others : List Choice) → choices ≡ others →
+    (verdict : Verdict P) (pair : Option (ℕ × ℕ)) → IsBranchPairFor shape others verdict pair → IsBranchPairFor board.shape choices verdict pair
+pair_on_board board shape same_shape choices others same_choices verdict pair at =
+    subst (λ (s : Shape). IsBranchPairFor s choices verdict pair) (sym same_shape)
+    (subst (λ (cs : List Choice). IsBranchPairFor shape cs verdict pair) (sym same_choices) at)
+
 module _ {P : Type 0} (objective : Objective) (Backs : Shape → List Choice → P → Verdict P → Type 0) (shape : Shape) (who : ℕ) (old : BoardView P) where
   -- what is known of the board on which the branch is claimed
   pub record IsClaimed (branch : Branch) (claimed : BoardView P) : Type 0 where
@@ -215,9 +227,9 @@ module _ {P : Type 0} (objective : Objective) (Backs : Shape → List Choice →
         less_work = less_work_after facts;
       }
 
-    pub after_turn : (claimed new : BoardView P) (verdict : Verdict P) → claimed ≡ claimed_board →
-        IsSettledBy objective Backs who branch.id verdict claimed new → IsAfterTurn shape who old new
-    after_turn claimed new verdict is by =
-        let same : new ≡ settled_board verdict by.what = by.settled ∙ ap (λ (b : BoardView P). after_settle b who branch.id verdict by.what) is in
+    pub after_turn : (claimed new : BoardView P) (verdict : Verdict P) (what : Settled) → claimed ≡ claimed_board →
+        new ≡ after_settle claimed who branch.id verdict what → AreFacts objective Backs new → IsAfterTurn shape who old new
+    after_turn claimed new verdict what is settled facts =
+        let same : new ≡ settled_board verdict what = settled ∙ ap (λ (b : BoardView P). after_settle b who branch.id verdict what) is in
         subst (λ (b : BoardView P). IsAfterTurn shape who old b) (sym same)
-        (now_settled verdict by.what (subst (λ (b : BoardView P). AreFacts objective Backs b) same by.facts))
+        (now_settled verdict what (subst (λ (b : BoardView P). AreFacts objective Backs b) same facts))

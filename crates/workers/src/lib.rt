@@ -5,8 +5,8 @@
 #![tactic(auto)]
 
 mod alone;
+mod branch;
 mod first;
-mod pairs;
 #[cfg(test)]
 mod tests;
 mod turns;

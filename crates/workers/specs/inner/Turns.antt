@@ -1,12 +1,7 @@
 -- What a turn of a search with one worker keeps, and why the turns end.
-use Rattle.std.specs.Prelude.{◌≡◌, ℕ, ◌<◌, List}
+use Rattle.std.specs.Prelude.{◌≡◌, ℕ, ◌<◌}
 use Rattle.compact_types.specs.declared.plan.Shape.{Shape}
-use Rattle.compact_types.specs.declared.search.Choice.{Choice}
-use Rattle.compact_types.specs.Bests.{Objective}
-use Rattle.shape_graphs.specs.declared.measure.Verdict.{Verdict}
-use Rattle.board.specs.declared.entries.Settled.{Settled}
-use Rattle.board.specs.Boards.{BoardView, board_state, after_settle, IsCaller}
-use Rattle.board.specs.Facts.{AreFacts}
+use Rattle.board.specs.Boards.{BoardView, board_state, IsCaller}
 use Rattle.board.specs.Histories.{State, IsHeldBy, open_count_of}
 use Rattle.board.specs.Works.{work_left}
 
@@ -29,14 +24,6 @@ pub record IsAfterTurn {P : Type 0}
     (shape : Shape) (who : ℕ) (old new : BoardView P) : Type 0 where
   pub between : IsBetweenTurns shape who new
   pub less_work : work_ahead (board_state new) < work_ahead (board_state old)
-
--- the board is the old one after the caller has settled the branch by the verdict, with some outcome
-pub record IsSettledBy {P : Type 0} (objective : Objective)
-    (Backs : Shape → List Choice → P → Verdict P → Type 0)
-    (who id : ℕ) (verdict : Verdict P) (old new : BoardView P) : Type 0 where
-  pub what : Settled
-  pub settled : new ≡ after_settle old who id verdict what
-  pub facts : AreFacts objective Backs new
 
 -- the board is one of the shape, and every branch is settled
 pub record AreAllSettled {P : Type 0} (shape : Shape) (board : BoardView P) : Type 0 where

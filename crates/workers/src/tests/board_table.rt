@@ -4,8 +4,8 @@ ghost use Rattle.std.specs.Prelude.{◌≡◌, ◌≤◌};
 
 use super::examples::board_of;
 use super::{claimed, settled};
-use crate::pairs::pair_of;
-use crate::turns::verdict_on;
+use crate::branch::solve_branch;
+use crate::turns::stop_of;
 use bars::bars_of;
 use board::{Board, Claim, SettleFault, Settled};
 use compact_types::{Branch, Choice, Extension, Items, NoMemory};
@@ -54,9 +54,9 @@ fn settle<M: Measure>(
     let choices = Items::new(alloc);
     let none = Extension { choices };
     let start: Option<M::Proof> = None;
-    let verdict = verdict_on(alloc, measure, &bars, &none, start.as_ref(), board.best())?;
-    let pair = pair_of(alloc, &bars, &none, &verdict, board.best())?;
-    board.settle(who, 0, verdict, pair)
+    let stop = stop_of(board);
+    let solved = solve_branch(alloc, measure, &bars, &none, start.as_ref(), stop)?;
+    board.settle(who, 0, solved.verdict, solved.pair)
 }
 
 /// The choice of a side of the pair at which branch 0 will be split.
@@ -106,13 +106,19 @@ fn settles_are_answered<M: Measure>(
         && board.outcome(0) == Some(what)
 }
 
-/// Whether branch 0 alone is settled, by a least key of length 4, and branches 1 to 4 wait.
+/// Whether branch 0 alone is settled, by a least key of length 4, and branches 1 to 4 wait, for
+/// which there is a proof to begin with.
 fn is_split<P: Backing>(board: &Board<P>) -> Result<bool, NoMemory> {
     let Some(latest) = board.latest_waiting()? else {
         return Ok(false);
     };
     let least = matches!(board.verdict(0), Some(Verdict::Least { key, .. }) if key.worth == 4);
-    Ok(least && board.verdict(1).is_none() && board.open_count() == 4 && latest.id == 4)
+    let proofs = board.proof_before(0).is_none()
+        && board.proof_before(1).is_some()
+        && board.proof_before(4).is_some()
+        && board.proof_before(5).is_none();
+    let open = board.verdict(1).is_none() && board.open_count() == 4 && latest.id == 4;
+    Ok(least && open && proofs)
 }
 
 /// A spine of length 10 with an arm of 10 at its upper end and one of 20 at its lower, which turns
