@@ -1,6 +1,6 @@
 -- Amounts that have arrived are a best flow.
-use Rattle.std.proofs.Common.{◌≡◌, ℕ, zero, suc, ◌+◌, ◌*◌, ◌^◌, ◌<◌, ◌≤◌, inl, inr, ℤ, pos, List, length, get_or, replicate, refl, sym, ap, subst, ◌∙◌, arith, sum}
-use Rattle.std.specs.Prelude.{◌+ℤ◌, ◌-ℤ◌, ◌*ℤ◌, ◌≤ℤ◌}
+use Rattle.std.proofs.Common.{◌≡◌, ℕ, zero, suc, ◌+◌, ◌*◌, ◌^◌, ◌<◌, ◌≤◌, inl, inr, ℤ, pos, List, length, get_or, replicate, refl, sym, ap, ◌∙◌, arith, sum}
+use Rattle.std.specs.Prelude.{◌-ℤ◌, ◌*ℤ◌, ◌≤ℤ◌}
 use Rattle.std.proofs.lemmas.Int.{ints}
 use Rattle.std.proofs.lemmas.Bool.{cases_lt}
 use Rattle.std.proofs.lemmas.List.{get_or-replicate, length-replicate}
@@ -11,19 +11,19 @@ use Rattle.compact_types.proofs.Laws.{sum_to-same, sum_to-not_greater}
 use Rattle.shape_graphs.specs.declared.graph.Arc.{Arc}
 use Rattle.shape_graphs.specs.declared.graph.TheConstants.{MOST_ARCS}
 use Rattle.shape_graphs.specs.Arcs.{arc_at, EndsAreNodes, AreArcsWithin}
-use Rattle.shape_graphs.specs.Flows.{amount_at, at_node, net, Balances, bound_of, IsBestFlow, IsSolution}
+use Rattle.shape_graphs.specs.Flows.{amount_at, at_node, net, Balances, bound_of, IsBestFlow}
 use Rattle.shape_graphs.specs.declared.graph.TheConstants.{MOST_AMOUNT}
 use Rattle.diff_flow.specs.declared.steps.Step.{Step}
 use Rattle.diff_flow.specs.Amounts.{IsFlowOn}
 use Rattle.diff_flow.specs.Tight.{AreTight}
-use Rattle.diff_flow.specs.Improving.{IsBestByNumbers, IsRaised, IsShownBest}
+use Rattle.diff_flow.specs.Improving.{IsBestByNumbers, IsRaised}
 use Rattle.diff_flow.specs.inner.Steps.{step_at, AreStepsOf, ArePaired, IsOpen, AreMet}
-use Rattle.diff_flow.specs.inner.Numbers.{height, NoneMeet, AreLeastMet}
+use Rattle.diff_flow.specs.inner.Numbers.{height, AreLeastMet}
 use Rattle.diff_flow.specs.inner.Routing.{net_by, IsSpread, IsRouting, AreDropped, AreGiven, AreFirst}
-use Rattle.diff_flow.proofs.SignedLemmas.{times-le, times_suc}
+use Rattle.compact_types.proofs.Laws.{times-le_pos}
+use Rattle.diff_flow.proofs.SignedLemmas.{times_suc}
 use Rattle.diff_flow.proofs.SetLemmas.{sum_most}
-use Rattle.diff_flow.proofs.Duality.{bound_below, tight_where_equal, equal_where_tight, best_by_tight}
-use Rattle.diff_flow.proofs.TightLemmas.{nat, nat_is, none_tight, tight_where_met}
+use Rattle.diff_flow.proofs.TightLemmas.{nat, nat_is, tight_where_met}
 use Rattle.diff_flow.proofs.LowLemmas.{sum_low, amounts_low}
 use Rattle.diff_flow.proofs.RouteLemmas.{along_number, against_number}
 use Rattle.diff_flow.proofs.RoundLemmas.{rises_along}
@@ -194,13 +194,13 @@ pub bound_within : (arcs : List Arc) (amounts : List ℕ) → AreArcsWithin arcs
 bound_within arcs amounts within few flow =
     let low = sum_to-not_greater (λ i. pos 0) (λ i. pos (amount_at amounts i) *ℤ (arc_at arcs i).least) (length arcs)
     (λ i inside. let one = (within i inside).some_least in
-    let less = times-le (amount_at amounts i) (pos 0) (arc_at arcs i).least (omega (arith, ints, one)) in
+    let less = times-le_pos (amount_at amounts i) (pos 0) (arc_at arcs i).least (omega (arith, ints, one)) in
     let none = *ℤ-zero (pos (amount_at amounts i)) in
     omega (arith, ints, less, none)) in
     let nothing = Rattle.compact_types.proofs.Laws.sum_to-nothing (length arcs) in
     let high = sum_to-not_greater (λ i. pos (amount_at amounts i) *ℤ (arc_at arcs i).least) (λ i. pos (2 ^ 60)) (length arcs)
     (λ i inside. let most = (within i inside).most_least in
-    let less = times-le (amount_at amounts i) (arc_at arcs i).least (pos 1000) most in
+    let less = times-le_pos (amount_at amounts i) (arc_at arcs i).least (pos 1000) most in
     let is = times_nat (amount_at amounts i) 1000 in
     let amount = flow.most i inside in
     omega (arith, ints, less, is, amount)) in

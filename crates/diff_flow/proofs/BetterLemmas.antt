@@ -1,12 +1,12 @@
 -- A best flow beside one that it shows not to be best.
-use Rattle.std.proofs.Common.{◌≡◌, ℕ, ◌+◌, ◌<◌, ◌≤◌, ℤ, pos, List, length, refl, sym, ap, ◌∙◌, arith}
-use Rattle.std.specs.Prelude.{◌+ℤ◌, ◌-ℤ◌, ◌≤ℤ◌}
+use Rattle.std.proofs.Common.{◌≡◌, ℕ, ◌<◌, ℤ, pos, List, length, refl, ap, ◌∙◌, arith}
+use Rattle.std.specs.Prelude.{◌+ℤ◌, ◌≤ℤ◌}
 use Rattle.std.proofs.lemmas.Int.{ints}
 use Rattle.shape_graphs.specs.declared.graph.DiffGraph.{DiffGraph}
 use Rattle.shape_graphs.specs.Arcs.{arc_at}
-use Rattle.shape_graphs.specs.Flows.{amount_at, Balances, bound_of, IsBestFlow, IsTight, over}
+use Rattle.shape_graphs.specs.Flows.{Balances, bound_of, IsBestFlow, IsTight}
 use Rattle.diff_flow.specs.declared.steps.Steps.{Steps}
-use Rattle.diff_flow.specs.declared.network.Better.{Better}
+use Rattle.diff_flow.specs.declared.better.Better.{Better}
 use Rattle.diff_flow.specs.Improving.{IsBestByNumbers, IsShownBest}
 use Rattle.diff_flow.specs.Tight.{AreTight}
 use Rattle.diff_flow.specs.inner.Bettering.{IsBetter}

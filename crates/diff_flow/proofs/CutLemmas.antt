@@ -7,7 +7,8 @@ use lib.IntN.{*ℤ-zero, zero-*ℤ}
 use Rattle.compact_types.specs.Sums.{sum_to}
 use Rattle.compact_types.proofs.Laws.{sum_to-same, sum_to-scale, sum_to-exchange, sum_to-not_greater, sum_to-add}
 use Rattle.shape_graphs.specs.Flows.{at_node}
-use Rattle.diff_flow.proofs.SignedLemmas.{times-le, times_suc, same_terms}
+use Rattle.compact_types.proofs.Laws.{times-le_pos}
+use Rattle.diff_flow.proofs.SignedLemmas.{times_suc, same_terms}
 use Rattle.diff_flow.proofs.Duality.{arc_share}
 
 -- what comes in at a node minus what goes out, by the ends of so many arcs
@@ -72,7 +73,7 @@ arc_none x a b leaves =
 arc_most : (x a b : ℕ) → (pos x *ℤ (one b -ℤ one a)) ≤ℤ pos x
 arc_most x a b =
     let d : (one b -ℤ one a) ≤ℤ pos 1 = omega (arith, ints) in
-    omega (arith, ints, times-le x _ _ d, times_one x (pos 1) refl)
+    omega (arith, ints, times-le_pos x _ _ d, times_one x (pos 1) refl)
 
 node_term : (k : ℕ) (a b : ℤ) → (0 < k → a ≤ℤ b) → (one k *ℤ a) ≤ℤ (one k *ℤ b)
 node_term k a b less =

@@ -6,11 +6,11 @@ use Rattle.std.proofs.lemmas.Bool.{cases_lt}
 use Rattle.std.proofs.lemmas.Bool.Decides.{nat_tests}
 use lib.IntN.{*ℤ-zero, *ℤ_comm}
 use Rattle.compact_types.specs.Sums.{sum_to}
-use Rattle.compact_types.proofs.Laws.{sum_to-same, sum_to-scale, sum_to-exchange, sum_to-not_greater}
+use Rattle.compact_types.proofs.Laws.{sum_to-same, sum_to-scale, sum_to-exchange, sum_to-not_greater, times-sub, times-le_pos, same_factor}
 use Rattle.shape_graphs.specs.declared.graph.Arc.{Arc}
 use Rattle.shape_graphs.specs.Arcs.{EndsAreNodes, arc_at}
 use Rattle.shape_graphs.specs.Flows.{at_node, amount_at, net, Balances, bound_of, IsBestFlow, over, IsSolution, IsTight, length_over}
-use Rattle.diff_flow.proofs.SignedLemmas.{times-sub, times-le, times-same, same_terms}
+use Rattle.diff_flow.proofs.SignedLemmas.{same_terms}
 
 -- the number at its own node, and at another
 pub at_same : (a : ℕ) (z : ℤ) → at_node a a z ≡ z
@@ -81,15 +81,15 @@ pub bound_below : (nodes : ℕ) (arcs : List Arc) (amounts : List ℕ) (p : ℕ 
     IsSolution arcs p → bound_of arcs amounts ≤ℤ length_over arcs p
 bound_below nodes arcs amounts p ends balances solution =
     let carried = carried_length nodes arcs amounts p ends balances in
-    let below = sum_to-not_greater _ _ (length arcs) (λ i inside. times-le (amount_at amounts i) _ _ (solution i inside)) in
+    let below = sum_to-not_greater _ _ (length arcs) (λ i inside. times-le_pos (amount_at amounts i) _ _ (solution i inside)) in
     rw (← carried) below
 
 pub tight_where_equal : (nodes : ℕ) (arcs : List Arc) (amounts : List ℕ) (p : ℕ → ℤ) → EndsAreNodes nodes arcs → Balances nodes arcs amounts →
     IsSolution arcs p → bound_of arcs amounts ≡ length_over arcs p → IsTight arcs amounts p
 tight_where_equal nodes arcs amounts p ends balances solution equal i inside some =
-    let terms = same_terms _ _ (length arcs) (λ j below. times-le (amount_at amounts j) _ _ (solution j below))
+    let terms = same_terms _ _ (length arcs) (λ j below. times-le_pos (amount_at amounts j) _ _ (solution j below))
     (equal ∙ sym (carried_length nodes arcs amounts p ends balances)) i inside in
-    sym (times-same (amount_at amounts i) _ _ some (solution i inside) terms)
+    sym (same_factor (pos (amount_at amounts i)) _ _ (omega (arith, ints, some)) terms)
 
 pub equal_where_tight : (nodes : ℕ) (arcs : List Arc) (amounts : List ℕ) (p : ℕ → ℤ) → EndsAreNodes nodes arcs → Balances nodes arcs amounts →
     IsTight arcs amounts p → bound_of arcs amounts ≡ length_over arcs p

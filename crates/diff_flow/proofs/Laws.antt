@@ -1,8 +1,7 @@
 -- The laws of this crate as plain lemmas. The proofs of the crates above import this module alone.
 
--- numbers with a sign as numbers without one, and products
+-- numbers with a sign as numbers without one
 pub use Rattle.diff_flow.proofs.TightLemmas.{nat, nat_is}
-pub use Rattle.diff_flow.proofs.SignedLemmas.{times-le}
 -- a balanced flow bounds every solution, and the two are equal where it is tight
 pub use Rattle.diff_flow.proofs.Duality.{bound_below, tight_where_equal, equal_where_tight}
 -- shortest solutions meet, and tight numbers can be brought down until they have no gaps

@@ -9,7 +9,7 @@ use Rattle.shape_graphs.specs.Arcs.{arc_at}
 use Rattle.shape_graphs.specs.Flows.{length_over}
 use Rattle.diff_flow.specs.Tight.{AreTight}
 use Rattle.diff_flow.specs.Shortest.{IsShortest, lesser}
-use Rattle.diff_flow.proofs.SignedLemmas.{times-add}
+use Rattle.compact_types.proofs.Laws.{times-add}
 
 lesser_meets : (a b c d l : ℤ) → l ≤ℤ (b -ℤ a) → l ≤ℤ (d -ℤ c) → l ≤ℤ (int_min b d -ℤ int_min a c)
 lesser_meets a b c d l h k = omega (arith, ints, clamps)

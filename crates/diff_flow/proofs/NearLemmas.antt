@@ -15,7 +15,8 @@ use Rattle.diff_flow.specs.Amounts.{IsFlowOn}
 use Rattle.diff_flow.specs.inner.Steps.{step_at, AreStepsOf, AreMet}
 use Rattle.diff_flow.specs.inner.Numbers.{height}
 use Rattle.diff_flow.specs.inner.Routing.{IsSlack, IsDetour, IsNear, net_by}
-use Rattle.diff_flow.proofs.SignedLemmas.{times-sub, times_suc, same_terms}
+use Rattle.compact_types.proofs.Laws.{times-sub}
+use Rattle.diff_flow.proofs.SignedLemmas.{times_suc, same_terms}
 use Rattle.diff_flow.proofs.Duality.{carried_length}
 use Rattle.diff_flow.proofs.TightLemmas.{tight_where_met}
 use Rattle.diff_flow.proofs.LowLemmas.{sum_low, amounts_low}

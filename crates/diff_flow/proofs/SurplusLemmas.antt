@@ -4,22 +4,16 @@ use Rattle.std.specs.Prelude.{◌+ℤ◌, ◌-ℤ◌, ◌≤ℤ◌}
 use Rattle.std.proofs.lemmas.Int.{ints}
 use Rattle.std.proofs.lemmas.List.{get_or-replicate, get_or-take, length-take}
 use Rattle.std.proofs.lemmas.Bool.{cases_eq, cases_lt}
-use Rattle.std.proofs.lemmas.Bool.Decides.{nat_tests}
 use Rattle.compact_types.specs.Sums.{sum_to}
 use Rattle.compact_types.specs.Magnitudes.{IsWithin}
 use Rattle.shape_graphs.specs.declared.graph.Arc.{Arc}
 use Rattle.shape_graphs.specs.Arcs.{arc_at}
 use Rattle.shape_graphs.specs.Flows.{at_node, amount_at, BalancesAt}
 use Rattle.diff_flow.specs.Amounts.{IsFirstUnbalanced}
-use Rattle.diff_flow.specs.Tight.{number_at}
+use Rattle.shape_graphs.specs.Flows.{number_at}
 use Rattle.diff_flow.specs.inner.Surpluses.{AreNothing, AreSurpluses, BalanceBelow, IsFirstSome, brought}
+use Rattle.diff_flow.proofs.Duality.{at_same, at_other}
 use Rattle.diff_flow.proofs.FlowLemmas.{at_cases, balances_here, unbalanced_here}
-
-at_same : (a b : ℕ) (z : ℤ) → a ≡ b → at_node a b z ≡ z
-at_same a b z e = grind (arith, nat_tests)
-
-at_other : (a b : ℕ) (z : ℤ) → (a ≡ b → ⊥) → at_node a b z ≡ pos 0
-at_other a b z ne = grind (arith, nat_tests)
 
 -- zeros, and the first of them
 pub zeros_are_nothing : (n k : ℕ) → k < n → number_at (replicate n (pos 0)) k ≡ pos 0
@@ -39,7 +33,7 @@ put_at sums first node place more z is inside sum k within =
       | inl same ↦
           let here : number_at (set sums place z) k ≡ z = ap (number_at (set sums place z)) same ∙ get_or-set_same sums place z (pos 0) inside in
           let old : number_at sums k ≡ number_at sums place = ap (number_at sums) same in
-          let at : at_node node (first + k) more ≡ more = at_same node (first + k) more (omega (arith, is, same)) in
+          let at : at_node node (first + k) more ≡ more = let own : first + k ≡ node = omega (arith, is, same) in rw own (at_same node more) in
           omega (arith, ints, here, old, at, sum)
       | inr apart ↦
           let here : number_at (set sums place z) k ≡ number_at sums k = get_or-set_other sums place k z (pos 0) apart in

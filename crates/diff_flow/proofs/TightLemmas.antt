@@ -6,7 +6,8 @@ use Rattle.std.proofs.lemmas.Bool.{cases_lt}
 use Rattle.shape_graphs.specs.declared.graph.Arc.{Arc}
 use Rattle.shape_graphs.specs.Arcs.{arc_at, EndsAreNodes, AreArcsWithin}
 use Rattle.shape_graphs.specs.Flows.{amount_at, over}
-use Rattle.diff_flow.specs.Tight.{number_at, AreTight, AreLeastTight}
+use Rattle.shape_graphs.specs.Flows.{number_at}
+use Rattle.diff_flow.specs.Tight.{AreTight, AreLeastTight}
 use Rattle.diff_flow.specs.declared.steps.Step.{Step}
 use Rattle.diff_flow.specs.inner.Steps.{step_at, IsAlong, IsAgainst, AreStepsOf, IsOpen, Meets, AreMet}
 use Rattle.diff_flow.specs.inner.Numbers.{height, AreLeastMet, NoneMeet}

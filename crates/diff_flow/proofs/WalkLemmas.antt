@@ -1,19 +1,18 @@
 -- The longest walks: the steps in topological order, each met once and for all.
-use Rattle.std.proofs.Common.{◌≡◌, ℕ, ◌+◌, ◌-◌, ◌*◌, ◌<◌, ◌≤◌, inl, inr, List, [], length, get_or, replicate, refl, sym, ap, subst, ◌∙◌, arith}
+use Rattle.std.proofs.Common.{◌≡◌, ℕ, ◌+◌, ◌<◌, ◌≤◌, inl, inr, List, [], length, replicate, refl, sym, ap, subst, ◌∙◌, arith}
 use Rattle.std.specs.Prelude.{pos, ℤ, ◌≤ℤ◌, slice_index}
 use Rattle.std.proofs.lemmas.Bool.{cases_lt}
 use Rattle.shape_graphs.specs.declared.graph.Arc.{Arc}
-use Rattle.shape_graphs.specs.declared.graph.DiffGraph.{DiffGraph}
-use Rattle.shape_graphs.specs.Arcs.{arc_at, EndsAreNodes}
+use Rattle.shape_graphs.specs.Arcs.{EndsAreNodes}
 use Rattle.shape_graphs.specs.Flows.{amount_at, IsSolution}
 use Rattle.shape_graphs.specs.Orders.{IsArcOrder}
 use Rattle.diff_flow.specs.declared.steps.Step.{Step}
 use Rattle.diff_flow.specs.Tight.{AreLeastTight}
-use Rattle.diff_flow.specs.Networks.{AreLongestWalks}
-use Rattle.diff_flow.specs.inner.Steps.{step_at, AreStepsWithin, ArePaired, AreStepsOf, AreInOrder, IsOpen, Meets, AreMet}
-use Rattle.diff_flow.specs.inner.Numbers.{height, AreLow, NoneMeet, IsLift, AreLeastMet, AreWalked}
+use Rattle.diff_flow.specs.inner.Networks.{AreLongestWalks}
+use Rattle.diff_flow.specs.inner.Steps.{step_at, AreStepsWithin, ArePaired, AreStepsOf, AreInOrder, IsOpen, Meets}
+use Rattle.diff_flow.specs.inner.Numbers.{height, NoneMeet, IsLift, AreLeastMet, AreWalked}
 use Rattle.diff_flow.proofs.SetLemmas.{by_write}
-use Rattle.diff_flow.proofs.LabelLemmas.{zeros_low, raised_low_at, too_high_at}
+use Rattle.diff_flow.proofs.LabelLemmas.{zeros_low, raised_low_at}
 use Rattle.diff_flow.proofs.RouteLemmas.{along_number}
 use Rattle.diff_flow.proofs.TightLemmas.{none_tight}
 

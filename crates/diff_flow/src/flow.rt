@@ -22,7 +22,7 @@ ghost use Rattle.shape_graphs.specs.Arcs.{AreArcsWithin, IsArcWithin};
 ghost use Rattle.shape_graphs.specs.declared.graph.TheConstants.{MOST_AMOUNT, MOST_ARCS};
 ghost use Rattle.shape_graphs.specs.Flows.{at_node, Balances, bound_of};
 ghost use Rattle.diff_flow.specs.Amounts.{ArePulls, IsFlowOn, IsFirstUnbalanced};
-ghost use Rattle.diff_flow.specs.Tight.{number_at};
+ghost use Rattle.shape_graphs.specs.Flows.{number_at};
 ghost use Rattle.diff_flow.specs.declared.flow.TheConstants.{BLOCK};
 ghost use Rattle.diff_flow.specs.inner.Surpluses.{
   AreNothing,
@@ -66,7 +66,9 @@ fn pull_of(arc: Arc) -> u64
 /// The bound of the flow: the sum over the arcs of amount times least.
 pub fn bound(graph: &DiffGraph, flow: &Flow) -> i128
     requires { IsFlowOn graph.now.arcs flow.now.amounts }
-    ensures { result ≡ bound_of graph.now.arcs flow.now.amounts }
+    ensures value { result ≡ bound_of graph.now.arcs flow.now.amounts }
+    ensures low { pos 0 ≤ℤ result }
+    ensures high { result ≤ℤ pos (2 ^ 90) }
 {
     let arcs = graph.arcs.as_slice();
     let amounts = flow.amounts.as_slice();

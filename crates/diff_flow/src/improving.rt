@@ -10,9 +10,10 @@ ghost use Rattle.diff_flow.specs.inner.Steps.{AreStepsOf};
 ghost use Rattle.diff_flow.specs.inner.Routing.{IsNear};
 ghost use Rattle.diff_flow.specs.inner.Bettering.{IsBetter};
 
+use crate::better::{Better, find_better};
 use crate::detour::detour;
 use crate::flow::bound;
-use crate::network::{Better, Network};
+use crate::network::Network;
 use crate::route::{narrowed, widened};
 use crate::steps::Steps;
 use compact_types::{Flow, NoMemory};
@@ -48,7 +49,8 @@ pub fn improve(alloc: Global, graph: &DiffGraph, flow: &mut Flow) -> Result<Impr
     let Some(network) = Network::of(alloc, graph)? else {
         unreachable!()
     };
-    let Some(better) = network.better(alloc, flow)? else {
+    let walks = network.walks.as_slice();
+    let Some(better) = find_better(alloc, &network.graph, &network.steps, walks, flow)? else {
         return Ok(Improved::Best);
     };
     let raise = raise_to(alloc, graph, &network.steps, flow, better)?;
@@ -109,22 +111,22 @@ fn difference(a: i128, b: i128) -> i128
 
 /// Whether it is no more than the answer can say.
 fn fits(by: i128) -> bool
-    ensures { IsTrue result ↔ (by ≤ℤ pos 9_223_372_036_854_775_807) }
+    ensures { IsTrue result ↔ (by ≤ℤ i64.MAX) }
 {
-    by <= 9_223_372_036_854_775_807
+    by <= i64::MAX as i128
 }
 
 /// The same number.
 fn narrow(by: i128) -> i64
     requires low { pos 0 ≤ℤ by }
-    requires high { by ≤ℤ pos 9_223_372_036_854_775_807 }
+    requires high { by ≤ℤ i64.MAX }
     ensures { result ≡ by }
 {
     by as i64
 }
 
 /// A flow with a unit on another way than in the one given, which is not best. Its bound is higher,
-/// by 1,000 for each arc at most.
+/// by `GREATEST_LEAST` for each arc at most.
 fn near_flow(
     alloc: Global,
     graph: &DiffGraph,

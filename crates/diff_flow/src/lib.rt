@@ -10,6 +10,7 @@
 //! lack, while the numbers rise (`route`, `search`).
 #![tactic(auto)]
 
+mod better;
 mod detour;
 mod flow;
 mod improving;

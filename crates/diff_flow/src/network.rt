@@ -1,54 +1,53 @@
 //! A graph without a cycle, made ready for flows once.
 
-ghost use Rattle.std.specs.Prelude.{◌≡◌, ◌≤◌, ◌<◌, ◌-◌, ◌*◌, ◌^◌, ℕ, pos, length, slice_index, [], map, IfOk};
-ghost use Rattle.diff_flow.specs.inner.Numbers.{AreLeastMet};
+ghost use Rattle.std.specs.Prelude.{◌≡◌, ◌≤◌, ◌<◌, ◌^◌, ℕ, ℤ, pos, length, slice_index, map};
+ghost use Rattle.std.specs.Prelude.{IfOk, MatchOption, MatchResult};
+ghost use Rattle.shape_graphs.specs.Flows.{Balances, IsBestFlow, number_at};
+ghost use Rattle.shape_graphs.specs.Paths.{HasCycle};
+ghost use Rattle.diff_flow.specs.Amounts.{IsFlowOn};
+ghost use Rattle.diff_flow.specs.Tight.{AreLeastTight, AreTight};
 
+use crate::better::find_better;
 use crate::labels::least_met;
-use crate::route::{narrowed, route};
-use crate::slack::slack_arc;
 use crate::steps::{Steps, steps_of};
 use crate::walks::longest_walks;
 use compact_types::{Flow, Items, NoMemory};
 use shape_graphs::{DiffGraph, arcs_in_order};
 use std::alloc::Global;
+use std::marker::Model;
+use std::snapshot::Snapshot;
 
 /// A graph without a cycle, made ready for flows: its steps by the node that they begin at, and
 /// the longest walks. It is made once for a graph, and serves each flow on it.
+///
+/// Contracts see it as the graph, of which it keeps no copy.
 #[derive(Drop)]
 pub struct Network {
+    pub(crate) graph: Snapshot<DiffGraph>,
     pub(crate) steps: Steps,
     pub(crate) walks: Vec<u64>,
-    pub(crate) ghost longest: { AreLeastMet steps.nodes steps.list.items []
-        ((steps.nodes - 1) * steps.reach) walks.items },
 }
 
-/// A flow that is best, where another is not.
-#[derive(Drop)]
-pub(crate) struct Better {
-    pub(crate) flow: Flow,
-    /// Numbers that are tight for it.
-    pub(crate) numbers: Vec<u64>,
-    /// An arc on which the other flow has an amount, and which the numbers leave slack.
-    pub(crate) slack: usize,
+impl Model for Network {
+    ghost use Rattle.shape_graphs.specs.declared.graph.DiffGraph.{DiffGraph};
+
+    ghost Value = { DiffGraph };
+
+    ghost use Rattle.diff_flow.specs.inner.Networks.{AreMadeFor};
+
+    ghost view = { λ network. network.graph.value };
+
+    ghost invariant = { λ network. AreMadeFor network.graph.value network.steps
+        network.walks.items };
 }
 
 impl Network {
-    ghost use Rattle.std.specs.Prelude.{ℤ, MatchOption, MatchResult};
-    ghost use Rattle.shape_graphs.specs.declared.graph.DiffGraph.{DiffGraph as AnyGraph};
-    ghost use Rattle.shape_graphs.specs.Paths.{HasCycle};
-    ghost use Rattle.shape_graphs.specs.Flows.{Balances, IsBestFlow};
-    ghost use Rattle.diff_flow.specs.Amounts.{IsFlowOn};
-    ghost use Rattle.diff_flow.specs.Networks.{IsBalancedIn, IsFlowIn, IsNetworkOf};
-    ghost use Rattle.diff_flow.specs.Improving.{IsBestByNumbers};
-    ghost use Rattle.diff_flow.specs.Tight.{AreLeastTight, AreTight, number_at};
-    ghost use Rattle.diff_flow.specs.inner.Bettering.{IsBetter};
-
-    /// The network of the graph; `None` exactly where the graph has a cycle. Takes time in
-    /// proportion to nodes and arcs.
+    /// The network of the graph; `None` exactly if the graph has a cycle. Takes time in proportion
+    /// to nodes and arcs.
     pub fn of(alloc: Global, graph: &DiffGraph) -> Result<Option<Network>, NoMemory>
         ensures { IfOk result (λ found. MatchOption found
             (HasCycle graph.now.arcs)
-            (IsNetworkOf graph.now)) }
+            (λ network. (network ≡ graph.now) × (HasCycle graph.now.arcs → ⊥))) }
     {
         let order = match arcs_in_order(alloc, graph)? {
             Some(order) => order,
@@ -56,79 +55,51 @@ impl Network {
         };
         let steps = steps_of(alloc, graph)?;
         let walks = longest_walks(alloc, &steps, order.as_slice())?;
-        Ok(Some(Network { steps, walks }))
+        Ok(Some(Network {
+            graph: Snapshot::of(graph),
+            steps,
+            walks,
+        }))
     }
 
     /// Makes the flow best: no balanced flow has a greater bound. A best flow stays as it is, as
     /// one that is tight on the longest walks is, and so does every flow without memory.
     pub fn make_best(&self, alloc: Global, flow: &mut Flow) -> Result<(), NoMemory>
-        requires { IsBalancedIn self.now flow.old.amounts }
-        ensures flow { (graph : AnyGraph) → IsNetworkOf graph self.now →
-            Balances graph.nodes graph.arcs flow.old.amounts →
-            IfOk result (λ _. IsFlowOn graph.arcs flow.new.amounts) }
-        ensures best { (graph : AnyGraph) → IsNetworkOf graph self.now →
-            Balances graph.nodes graph.arcs flow.old.amounts →
-            IfOk result (λ _. IsBestFlow graph.nodes graph.arcs flow.new.amounts) }
-        ensures tight { (graph : AnyGraph) → IsNetworkOf graph self.now →
-            Balances graph.nodes graph.arcs flow.old.amounts →
-            IfOk result (λ _. (numbers : ℕ → ℤ)
-            × AreTight graph.nodes graph.arcs flow.new.amounts numbers) }
-        ensures kept { (graph : AnyGraph) → IsNetworkOf graph self.now →
-            IsBestFlow graph.nodes graph.arcs flow.old.amounts →
+        requires flow { IsFlowOn self.now.arcs flow.old.amounts }
+        requires balances { Balances self.now.nodes self.now.arcs flow.old.amounts }
+        ensures flow { IfOk result (λ _. IsFlowOn self.now.arcs flow.new.amounts) }
+        ensures best { IfOk result (λ _. IsBestFlow self.now.nodes self.now.arcs flow.new.amounts) }
+        ensures tight { IfOk result (λ _. (numbers : ℕ → ℤ)
+            × AreTight self.now.nodes self.now.arcs flow.new.amounts numbers) }
+        ensures kept { IsBestFlow self.now.nodes self.now.arcs flow.old.amounts →
             flow.new.amounts ≡ flow.old.amounts }
         ensures refused { MatchResult result (λ _. Unit {0})
             (λ _. flow.new.amounts ≡ flow.old.amounts) }
     {
-        if let Some(better) = self.better(alloc, flow)? {
+        let walks = self.walks.as_slice();
+        if let Some(better) = find_better(alloc, &self.graph, &self.steps, walks, flow)? {
             *flow = better.flow;
         }
         Ok(())
     }
 
     /// The least numbers from zero upward that solve the graph and are tight for the flow, at every
-    /// node; `None` exactly where no numbers are. A flow with tight numbers is best.
+    /// node; `None` exactly if no numbers are. A flow with tight numbers is best.
     pub fn least_tight(&self, alloc: Global, flow: &Flow) -> Result<Option<Items<i64>>, NoMemory>
-        requires { IsFlowIn self.now flow.now.amounts }
-        ensures numbers { (graph : AnyGraph) → IsNetworkOf graph self.now →
-            IfOk result (λ found. MatchOption found
-            ((numbers : ℕ → ℤ) → AreTight graph.nodes graph.arcs flow.now.amounts numbers → ⊥)
+        requires { IsFlowOn self.now.arcs flow.now.amounts }
+        ensures numbers { IfOk result (λ found. MatchOption found
+            ((numbers : ℕ → ℤ) →
+            AreTight self.now.nodes self.now.arcs flow.now.amounts numbers → ⊥)
             (λ numbers.
-            AreLeastTight graph.nodes graph.arcs flow.now.amounts (number_at numbers))) }
-        ensures nodes { (graph : AnyGraph) → IsNetworkOf graph self.now →
-            IfOk result (λ found. MatchOption found
-            (Unit {0}) (λ numbers. length numbers ≡ graph.nodes)) }
+            AreLeastTight self.now.nodes self.now.arcs flow.now.amounts (number_at numbers))) }
+        ensures nodes { IfOk result (λ found. MatchOption found
+            (Unit {0}) (λ numbers. length numbers ≡ self.now.nodes)) }
     {
         let amounts = flow.amounts.as_slice();
         match least_met(alloc, &self.steps, self.walks.as_slice(), amounts)? {
             None => Ok(None),
             Some(numbers) => Ok(Some(signed(alloc, numbers.as_slice())?)),
         }
-    }
-
-    /// A best flow, found from the one given; `None` exactly where that is best.
-    pub(crate) fn better(&self, alloc: Global, flow: &Flow) -> Result<Option<Better>, NoMemory>
-        requires { IsBalancedIn self.now flow.now.amounts }
-        ensures { (graph : AnyGraph) → IsNetworkOf graph self.now →
-            Balances graph.nodes graph.arcs flow.now.amounts →
-            IfOk result (λ found. MatchOption found
-            (IsBestByNumbers graph.nodes graph.arcs flow.now.amounts)
-            (IsBetter graph self.now.steps flow.now.amounts)) }
-    {
-        let amounts = flow.amounts.as_slice();
-        let Some(_) = slack_arc(&self.steps, amounts, self.walks.as_slice()) else {
-            return Ok(None);
-        };
-        let mut numbers = Vec::from_slice(alloc, self.walks.as_slice())?;
-        let routed = route(alloc, &self.steps, amounts, numbers.as_mut_slice())?;
-        let Some(slack) = slack_arc(&self.steps, amounts, numbers.as_slice()) else {
-            return Ok(None);
-        };
-        let amounts = narrowed(alloc, routed.as_slice())?;
-        Ok(Some(Better {
-            flow: Flow { amounts },
-            numbers,
-            slack,
-        }))
     }
 }
 

@@ -1,9 +1,8 @@
 //! Flows and tight numbers of small graphs, worked out by hand.
 
-ghost use Rattle.std.specs.Prelude.{IsTrue};
+ghost use Rattle.std.specs.Prelude.{◌≡◌, IsTrue};
 ghost use Rattle.shape_graphs.specs.Flows.{Balances};
 ghost use Rattle.diff_flow.specs.Amounts.{IsFlowOn};
-ghost use Rattle.diff_flow.specs.Networks.{IsNetworkOf};
 ghost use Rattle.shape_graphs.specs.declared.graph.TheConstants.{MOST_AMOUNT};
 
 use crate::{Improved, MOST_AMOUNT, Network, balanced, bound, first_flow, improve, least_tight};
@@ -175,7 +174,7 @@ fn settle(
     network: &Network,
     flow: &mut Flow,
 ) -> Result<Option<Items<i64>>, NoMemory>
-    requires network { IsNetworkOf graph.now network.now }
+    requires network { network.now ≡ graph.now }
     requires flow { IsFlowOn graph.now.arcs flow.old.amounts }
     requires balances { Balances graph.now.nodes graph.now.arcs flow.old.amounts }
 {

@@ -2,7 +2,8 @@
 
 ghost use Rattle.std.specs.Prelude.{◌≡◌, ℕ, ℤ, length, IfOk, MatchOption};
 ghost use Rattle.diff_flow.specs.Amounts.{IsFlowOn};
-ghost use Rattle.diff_flow.specs.Tight.{AreTight, AreLeastTight, number_at};
+ghost use Rattle.shape_graphs.specs.Flows.{number_at};
+ghost use Rattle.diff_flow.specs.Tight.{AreTight, AreLeastTight};
 
 use crate::network::Network;
 use compact_types::{Flow, Items, NoMemory};

@@ -13,13 +13,13 @@ use Rattle.shape_graphs.proofs.Laws.{some_solution}
 use Rattle.diff_flow.specs.Tight.{AreTight}
 use Rattle.diff_flow.proofs.Laws.{bound_below}
 use Rattle.diff_flow.proofs.Laws.{closed, closed_most}
-use Rattle.diff_flow.proofs.Laws.{times-le}
+use Rattle.compact_types.proofs.Laws.{times-le_pos}
 use Rattle.diff_flow.proofs.Laws.{nat, nat_is, tight_without_gaps}
 
 -- a product of a small and a bounded number
 pub product_most : (x m d : ℕ) (z : ℤ) → x ≤ m → z ≤ℤ pos d → (pos x *ℤ z) ≤ℤ pos (m * d)
 product_most x m d z few low =
-    let below = times-le x z (pos d) low in
+    let below = times-le_pos x z (pos d) low in
     let is = pos-*ℤ-pos x d in
     let most = mul-le x d m d few (omega arith) in
     omega (arith, ints, below, is, most)
@@ -49,7 +49,7 @@ bound_from_zero arcs amounts within =
     term : (x : ℕ) (arc : Arc) → IsArcWithin arc → pos 0 ≤ℤ (pos x *ℤ arc.least)
     term x arc is =
         let some = is.some_least in
-        let low = times-le x (pos 0) arc.least (omega (arith, ints, some)) in
+        let low = times-le_pos x (pos 0) arc.least (omega (arith, ints, some)) in
         let none = *ℤ-zero (pos x) in
         omega (arith, ints, low, none)
 

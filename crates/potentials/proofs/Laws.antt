@@ -10,5 +10,5 @@ pub use Rattle.potentials.proofs.Ceilings.{bound_from_zero, bound_by_amounts, bo
 -- what two flows prove
 pub use Rattle.potentials.proofs.TightKeys.{graph_of, worth_above, tight_at_bound, bound_at_tight, least_from_tight, none_where_none, least_tight_places}
 -- least keys
-pub use Rattle.potentials.proofs.LeastKeys.{some_least_key}
+pub use Rattle.potentials.proofs.LeastKeys.{places_by_stand, some_least_key}
 pub use Rattle.potentials.proofs.LowKeys.{no_cycle_where_met, least_key_low}

@@ -1,23 +1,20 @@
 -- Choices whose graphs have no cycle have a least key.
-use Rattle.std.proofs.Common.{◌≡◌, ℕ, zero, suc, ◌+◌, ◌-◌, ◌*◌, ◌<◌, ◌≤◌, ◌⊎◌, inl, inr, ℤ, pos, List, [], length, map, slice_index_or, refl, sym, ap, ◌∙◌, arith}
+use Rattle.std.proofs.Common.{◌≡◌, ℕ, zero, suc, ◌+◌, ◌-◌, ◌*◌, ◌<◌, ◌≤◌, ◌⊎◌, inl, inr, ℤ, pos, List, [], length, slice_index_or, refl, sym, ap, ◌∙◌, arith}
 use Rattle.std.specs.Prelude.{◌+ℤ◌, ◌-ℤ◌, ◌*ℤ◌, ◌≤ℤ◌, negsuc}
-use Rattle.std.specs.List.{range_with_len}
 use Rattle.std.proofs.lemmas.Int.{ints, clamps, by_lt_z}
-use Rattle.std.proofs.lemmas.List.{get_or-map, length-map}
-use Rattle.std.proofs.lemmas.List.FromFn.{length-range_with_len, get_or-range_with_len}
 use Rattle.std.proofs.Math.IntN.{*ℤ-zero}
 use Rattle.compact_types.specs.declared.places.Axis.{Axis}
 use Rattle.compact_types.specs.declared.places.Axis.TheVariants.{X, Y}
 use Rattle.compact_types.specs.declared.places.Key.{Key}
 use Rattle.compact_types.specs.declared.places.Places.{Places}
-use Rattle.compact_types.specs.declared.places.Point.{Point}
 use Rattle.compact_types.specs.declared.plan.Shape.{Shape}
 use Rattle.compact_types.specs.declared.search.Choice.{Choice}
 use Rattle.compact_types.specs.Bests.{key_of, worth_of}
 use Rattle.compact_types.specs.Bests.Objective.{total_length}
 use Rattle.compact_types.specs.Drawings.{IsFromZero}
-use Rattle.compact_types.specs.Lookups.{along, other_axis, origin}
-use Rattle.compact_types.proofs.Laws.{sum_to-same, sum_to-not_greater, sum_to-nothing}
+use Rattle.compact_types.specs.Magnitudes.{IsNowhereNegative}
+use Rattle.compact_types.specs.Lookups.{other_axis}
+use Rattle.compact_types.proofs.Laws.{sum_to-same, sum_to-not_greater, sum_to-nothing, times-le_pos}
 use Rattle.bars.specs.Segments.{node_of, node_count}
 use Rattle.bars.specs.Solutions.{IsSound, Fit, Solves}
 use Rattle.bars.proofs.Laws.{line_below}
@@ -25,12 +22,12 @@ use Rattle.shape_graphs.specs.declared.graph.Arc.{Arc}
 use Rattle.shape_graphs.specs.Arcs.{arc_at, AreGraph}
 use Rattle.shape_graphs.specs.Flows.{IsSolution, length_over, over}
 use Rattle.shape_graphs.specs.Graphs.{arcs_of}
-use Rattle.shape_graphs.specs.Measures.{HaveNoCycle, IsLeastKey, IsNowhereNegative, AreNowhereAbove}
+use Rattle.shape_graphs.specs.Measures.{HaveNoCycle, IsLeastKey, AreNowhereAbove}
 use Rattle.shape_graphs.specs.Paths.{HasCycle}
+use Rattle.shape_graphs.proofs.Laws.{places_by, places_by_fit, along_places_by}
 use Rattle.diff_flow.specs.Shortest.{IsShortest, lesser}
 use Rattle.diff_flow.proofs.Laws.{closed, closed_most, closed_slow}
 use Rattle.diff_flow.proofs.Laws.{shortest_meet}
-use Rattle.diff_flow.proofs.Laws.{times-le}
 use Rattle.diff_flow.proofs.Laws.{nat, nat_is, tight_without_gaps}
 use Rattle.potentials.specs.Standing.{StandAt}
 use Rattle.potentials.proofs.Ceilings.{low_numbers, low_numbers_tight}
@@ -93,7 +90,7 @@ module _ (nodes : ℕ) (arcs : List Arc) (graph : AreGraph nodes arcs) where
   shorter p q low = sum_to-not_greater _ _ (length arcs) (λ i inside. (
       let is = graph.within i inside in
       let pull = nat_is (arc_at arcs i).pull is.some_pull in
-      rw pull at (times-le (nat (arc_at arcs i).pull) (over arcs p i) (over arcs q i) (low i inside))))
+      rw pull at (times-le_pos (nat (arc_at arcs i).pull) (over arcs p i) (over arcs q i) (low i inside))))
 
   length_from_zero : (p : ℕ → ℤ) → IsSolution arcs p → pos 0 ≤ℤ (length_over arcs p)
   length_from_zero p solution =
@@ -283,36 +280,18 @@ module _ (nodes : ℕ) (arcs : List Arc) (graph : AreGraph nodes arcs) where
           omega (arith, ints, is, more))) 0 some in
           absurd (omega (arith, ints, low))
 
--- places by numbers
-module _ (shape : Shape) (numbers : Axis → ℕ → ℤ) where
-  abbrev pub point_of : ℕ → Point
-  point_of v = record { x = numbers X (node_of X shape v); y = numbers Y (node_of Y shape v) }
-
-  abbrev pub made : Places
-  made = record { xy = map point_of (range_with_len 0 shape.plan.vertices) }
-
-  along_point : (axis : Axis) (v : ℕ) → along axis (point_of v) ≡ numbers axis (node_of axis shape v)
-  along_point X v = refl
-  along_point Y v = refl
-
-  pub made_stands : StandAt shape numbers made
-  made_stands = record {
-    places_fit = length-map (range_with_len 0 shape.plan.vertices) point_of ∙ length-range_with_len 0 shape.plan.vertices;
-    each = λ axis v inside.
-        let number : 0 + v ≡ v = omega arith in
-        let is = get_or-map point_of (range_with_len 0 shape.plan.vertices) v 0 origin (omega (arith, inside, length-range_with_len 0 shape.plan.vertices))
-        ∙ ap point_of (get_or-range_with_len 0 shape.plan.vertices v 0 inside ∙ number) in
-        ap (along axis) is ∙ along_point axis v;
-  }
+-- the places by numbers on the nodes stand at these
+pub places_by_stand : (shape : Shape) (numbers : Axis → ℕ → ℤ) → StandAt shape numbers (places_by shape numbers)
+places_by_stand shape numbers = record { places_fit = places_by_fit shape numbers; each = along_places_by shape numbers }
 
 module _ (shape : Shape) (choices : List Choice) (sound : IsSound shape) (fit : Fit shape choices) where
   module _ (numbers : Axis → ℕ → ℤ)
       (are : (axis : Axis) → AreLowest (node_count axis shape) (arcs_of axis shape choices) (graph_of shape choices sound fit axis) (numbers axis)) where
     abbrev here : Places
-    here = made shape numbers
+    here = places_by shape numbers
 
     stand : StandAt shape numbers here
-    stand = made_stands shape numbers
+    stand = places_by_stand shape numbers
 
     solves : Solves shape choices here
     solves = solves_from shape choices sound.drawable fit here numbers stand (λ axis. (are axis).shortest.solution)
@@ -390,8 +369,8 @@ module _ (shape : Shape) (choices : List Choice) (sound : IsSound shape) (fit : 
           (node_of axis shape v) (line_below (other_axis axis) shape v vertex) in
           omega (arith, ints, is, there, low)
 
-    pub made_least : IsLeastKey total_length shape choices (key_of total_length shape here)
-    made_least = record {
+    pub places_by_least : IsLeastKey total_length shape choices (key_of total_length shape here)
+    places_by_least = record {
       solves = solves;
       from_zero = from_zero;
       worth = refl;
@@ -404,4 +383,4 @@ module _ (shape : Shape) (choices : List Choice) (sound : IsSound shape) (fit : 
       let found : (axis : Axis) → (numbers : ℕ → ℤ) × AreLowest (node_count axis shape) (arcs_of axis shape choices) (graph_of shape choices sound fit axis) numbers =
       λ axis. lowest_numbers (node_count axis shape) (arcs_of axis shape choices) (graph_of shape choices sound fit axis) (none axis) in
       let numbers : Axis → ℕ → ℤ = λ axis. (found axis).0 in
-      (key_of total_length shape (made shape numbers), made_least numbers (λ axis. (found axis).1))
+      (key_of total_length shape (places_by shape numbers), places_by_least numbers (λ axis. (found axis).1))

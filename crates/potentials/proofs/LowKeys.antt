@@ -18,13 +18,13 @@ use Rattle.shape_graphs.specs.declared.graph.Arc.{Arc}
 use Rattle.shape_graphs.specs.Arcs.{arc_at, AreGraph}
 use Rattle.shape_graphs.specs.Graphs.{arcs_of}
 use Rattle.shape_graphs.specs.Measures.{HaveNoCycle, IsLeastKey}
-use Rattle.shape_graphs.proofs.Laws.{comes_from, no_cycle_in_solution, one_least, solid_from}
+use Rattle.shape_graphs.proofs.Laws.{comes_from, no_cycle_in_solution, one_least, places_by, solid_from}
 use Rattle.diff_flow.specs.Shortest.{IsShortest}
 use Rattle.diff_flow.specs.Tight.{AreTight}
 use Rattle.diff_flow.proofs.Laws.{closed, closed_most, closed_slow, all_covered}
 use Rattle.diff_flow.proofs.Laws.{nat, nat_is, tight_without_gaps}
 use Rattle.potentials.specs.Standing.{StandAt}
-use Rattle.potentials.proofs.LeastKeys.{AreLowest, lowest_numbers, shorter, made, made_stands, made_least}
+use Rattle.potentials.proofs.LeastKeys.{AreLowest, lowest_numbers, shorter, places_by_stand, places_by_least}
 use Rattle.potentials.proofs.Standings.{node_taken, own_numbers, solution_from, stand_at_own, stands}
 use Rattle.potentials.proofs.TightKeys.{graph_of}
 
@@ -112,12 +112,12 @@ module _ (shape : Shape) (choices : List Choice) (sound : IsSound shape) (fit : 
       let found : (axis : Axis) → (numbers : ℕ → ℤ) × AreLowestAlong axis numbers =
       λ axis. lowest_numbers (node_count axis shape) (arcs_of axis shape choices) (graph_of shape choices sound fit axis) (none axis) in
       let numbers : Axis → ℕ → ℤ = λ axis. (found axis).0 in
-      let same : key_of total_length shape (made shape numbers) ≡ key =
-      one_least total_length shape choices (key_of total_length shape (made shape numbers)) key
-      (made_least shape choices sound fit numbers (λ axis. (found axis).1)) least in
+      let same : key_of total_length shape (places_by shape numbers) ≡ key =
+      one_least total_length shape choices (key_of total_length shape (places_by shape numbers)) key
+      (places_by_least shape choices sound fit numbers (λ axis. (found axis).1)) least in
       record {
         numbers = numbers;
-        stand = subst (λ (k : Key). StandAt shape numbers k.places) same (made_stands shape numbers);
+        stand = subst (λ (k : Key). StandAt shape numbers k.places) same (places_by_stand shape numbers);
         lowest = λ axis. (found axis).1;
       }
 

@@ -24,15 +24,15 @@ use Rattle.shape_graphs.specs.declared.measure.Verdict.{Verdict}
 use Rattle.shape_graphs.specs.declared.measure.Verdict.TheVariants.{Above, Least}
 use Rattle.shape_graphs.specs.Arcs.{AreGraph}
 use Rattle.shape_graphs.specs.Backings.{flow_of, IsBalanced, AreBalanced, bound_by, DoBack}
-use Rattle.shape_graphs.specs.Flows.{Balances, bound_of, IsFlowOn}
+use Rattle.shape_graphs.specs.Flows.{Balances, bound_of, IsFlowOn, number_at}
 use Rattle.shape_graphs.specs.Graphs.{arcs_of, IsGraphOf}
 use Rattle.shape_graphs.specs.Measures.{HaveNoCycle, IsAsked, IsBacked, IsLeastKey, IsRight}
 use Rattle.shape_graphs.specs.Paths.{HasCycle}
-use Rattle.diff_flow.specs.Tight.{AreTight, AreLeastTight, number_at}
-use Rattle.potentials.specs.Standing.{StandAt}
+use Rattle.diff_flow.specs.Tight.{AreTight, AreLeastTight}
+use Rattle.potentials.specs.Standing.{StandAt, numbers_along}
 use Rattle.potentials.specs.TightPlaces.{AreTightPlaces, AreLeastTightPlaces}
 use Rattle.potentials.specs.declared.ready.Bounded.{Bounded}
-use Rattle.potentials.specs.inner.Solving.{BalancesOn, IsBounded, IsSolvable, numbers_along}
+use Rattle.potentials.specs.inner.Solving.{BalancesOn, IsBounded, IsSolvable}
 use Rattle.potentials.proofs.Ceilings.{bound_from_zero, bound_small}
 use Rattle.potentials.proofs.TightKeys.{worth_above, bound_at_tight, least_from_tight, least_tight_places, none_where_none}
 

@@ -7,6 +7,7 @@ use Rattle.compact_types.specs.declared.search.Choice.{Choice}
 use Rattle.compact_types.specs.declared.search.Flow.{Flow}
 use Rattle.compact_types.specs.declared.search.Flows.{Flows}
 use Rattle.compact_types.specs.Drawings.{IsFromZero}
+use Rattle.compact_types.specs.Magnitudes.{IsNowhereNegative}
 use Rattle.compact_types.specs.Lookups.{along, place}
 use Rattle.bars.specs.Segments.{node_of}
 use Rattle.bars.specs.Solutions.{Solves}
@@ -14,7 +15,7 @@ use Rattle.shape_graphs.specs.Arcs.{arc_at}
 use Rattle.shape_graphs.specs.Backings.{flow_of}
 use Rattle.shape_graphs.specs.Flows.{amount_at}
 use Rattle.shape_graphs.specs.Graphs.{arcs_of}
-use Rattle.shape_graphs.specs.Measures.{IsNowhereNegative, AreNowhereAbove}
+use Rattle.shape_graphs.specs.Measures.{AreNowhereAbove}
 
 -- over each arc of the axis with a positive amount the difference of the places is its least
 abbrev pub IsTightAlong : Axis → Shape → List Choice → Flow → Places → Type 0

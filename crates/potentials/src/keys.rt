@@ -1,18 +1,17 @@
 //! What two flows prove of a list of choices: a bound, and the least places that are tight for
 //! both.
 
-ghost use Rattle.std.specs.Prelude.{◌≡◌, ◌^◌, pos, ◌≤ℤ◌, IfOk, MatchOption};
+ghost use Rattle.std.specs.Prelude.{◌≡◌, IfOk, MatchOption};
 ghost use Rattle.compact_types.specs.declared.places.Axis.TheVariants as axis;
 ghost use Rattle.compact_types.specs.declared.places.Places.{Places as AnyPlaces};
 ghost use Rattle.bars.specs.Solutions.{Fit, IsSound};
 ghost use Rattle.shape_graphs.specs.Backings.{AreBalanced, bound_by};
-ghost use Rattle.shape_graphs.specs.Flows.{bound_of, IsFlowOn};
 ghost use Rattle.shape_graphs.specs.Graphs.{IsGraphOf};
 ghost use Rattle.potentials.specs.TightPlaces.{AreLeastTightPlaces, AreTightPlaces};
 
 use crate::standing::places_of;
 use bars::Bars;
-use compact_types::{Extension, Flow, Flows, NoMemory, Places};
+use compact_types::{Extension, Flows, NoMemory, Places};
 use diff_flow::{bound, least_tight};
 use shape_graphs::{DiffGraph, graphs_of};
 use std::alloc::Global;
@@ -48,18 +47,8 @@ pub fn flow_key(
     let _what_is_known = bars.shape();
     let (columns, rows) = graphs_of(alloc, bars, extension)?;
     let least = least_places(alloc, bars, extension, &columns, &rows, flows)?;
-    let bound = bound_along(&columns, &flows.x) + bound_along(&rows, &flows.y);
+    let bound = bound(&columns, &flows.x) + bound(&rows, &flows.y);
     Ok(FlowKey { bound, least })
-}
-
-/// The bound of a flow.
-fn bound_along(graph: &DiffGraph, flow: &Flow) -> i128
-    requires { IsFlowOn graph.now.arcs flow.now.amounts }
-    ensures value { result ≡ bound_of graph.now.arcs flow.now.amounts }
-    ensures low { pos 0 ≤ℤ result }
-    ensures high { result ≤ℤ pos (2 ^ 100) }
-{
-    bound(graph, flow)
 }
 
 /// The least places from zero that are tight for both flows; `None` exactly where no solution is.

@@ -13,6 +13,7 @@ mod total_length;
 
 pub use keys::{FlowKey, flow_key};
 pub use law::{flows_bound_worths, least_key_exists, least_keys_are_low, lengths_by_graphs};
+pub use standing::point_of;
 pub use total_length::TotalLength;
 
 #[cfg(test)]

@@ -2,8 +2,8 @@
 
 ghost use Rattle.std.specs.Prelude.{◌≡◌, ◌≤◌, ◌^◌, ◌≤ℤ◌, pos, IfOk};
 ghost use Rattle.compact_types.specs.declared.limits.TheConstants.{MOST_VERTICES};
-ghost use Rattle.diff_flow.specs.Networks.{IsNetworkOf};
 ghost use Rattle.shape_graphs.specs.Flows.{bound_of};
+ghost use Rattle.shape_graphs.specs.Paths.{HasCycle};
 ghost use Rattle.potentials.specs.inner.Solving.{AreLeastNumbers, BalancesOn, HasTight};
 ghost use Rattle.potentials.specs.inner.Solving.{IsBounded, IsSolvable};
 
@@ -18,7 +18,8 @@ pub(crate) struct Ready {
     pub(crate) graph: DiffGraph,
     pub(crate) network: Network,
     pub(crate) ghost few_nodes: { graph.nodes ≤ MOST_VERTICES },
-    pub(crate) ghost network_of: { IsNetworkOf graph network },
+    pub(crate) ghost no_cycle: { HasCycle graph.arcs → ⊥ },
+    pub(crate) ghost network_of: { network ≡ graph },
 }
 
 /// A flow that balances on the graph of an axis, and its bound, in grid steps.

@@ -3,9 +3,8 @@
 ghost use Rattle.std.specs.Prelude.{◌≡◌, ◌<◌, length, IfOk};
 ghost use Rattle.compact_types.specs.declared.places.Axis.TheVariants as axis;
 ghost use Rattle.bars.specs.Segments.{node_count, node_of};
-ghost use Rattle.diff_flow.specs.Tight.{number_at};
-ghost use Rattle.potentials.specs.Standing.{StandAt};
-ghost use Rattle.potentials.specs.inner.Solving.{numbers_along};
+ghost use Rattle.shape_graphs.specs.Flows.{number_at};
+ghost use Rattle.potentials.specs.Standing.{StandAt, numbers_along};
 
 use bars::Bars;
 use compact_types::{Items, NoMemory, Places, Point};
@@ -32,8 +31,9 @@ pub(crate) fn places_of(
     })
 }
 
-/// Where a vertex stands: at the number of its column and that of its row.
-fn point_of(bars: &Bars, across: &[i64], up: &[i64], v: u32) -> Point
+/// The place of a vertex, where `across` has a number for each column and `up` one for each row: x
+/// is the number of its column, y that of its row.
+pub fn point_of(bars: &Bars, across: &[i64], up: &[i64], v: u32) -> Point
     requires vertex { v < bars.now.plan.vertices }
     requires across { length across.now ≡ node_count axis.X bars.now }
     requires up { length up.now ≡ node_count axis.Y bars.now }

@@ -1,9 +1,8 @@
 -- Places that solve the choices, made from numbers on the nodes of the two graphs.
-use Rattle.std.proofs.Common.{◌≡◌, ℕ, ◌+◌, ◌<◌, List, length, map, sym, ap, refl, ◌∙◌, arith, ℤ}
+use Rattle.std.proofs.Common.{◌≡◌, ℕ, ◌<◌, List, length, map, sym, ap, refl, ◌∙◌, arith, ℤ}
 use Rattle.std.specs.List.{range_with_len}
 use Rattle.std.proofs.lemmas.Int.{ints}
-use Rattle.std.proofs.lemmas.List.{get_or-map, length-map}
-use Rattle.std.proofs.lemmas.List.FromFn.{length-range_with_len, get_or-range_with_len}
+use Rattle.std.proofs.lemmas.List.FromFn.{get_or-map-range_with_len, length-map-range_with_len}
 use Rattle.compact_types.specs.declared.places.Axis.{Axis}
 use Rattle.compact_types.specs.declared.places.Axis.TheVariants.{X, Y}
 use Rattle.compact_types.specs.declared.places.Point.{Point}
@@ -24,39 +23,37 @@ use Rattle.shape_graphs.proofs.GraphArcs.{comes_from}
 use Rattle.shape_graphs.proofs.Solving.{solid_from, path_grows, solves_from_graphs}
 use Rattle.shape_graphs.proofs.SolutionLemmas.{some_solution}
 
-module _ (shape : Shape) (choices : List Choice) (numbers : Axis → ℕ → ℤ) where
-  abbrev point_of : ℕ → Point
-  point_of v = record { x = numbers X (node_of X shape v); y = numbers Y (node_of Y shape v) }
+-- places by numbers on the nodes of the two graphs
+module _ (shape : Shape) (numbers : Axis → ℕ → ℤ) where
+  abbrev point_by : ℕ → Point
+  point_by v = record { x = numbers X (node_of X shape v); y = numbers Y (node_of Y shape v) }
 
-  abbrev made : Places
-  made = record { xy = map point_of (range_with_len 0 shape.plan.vertices) }
+  abbrev pub places_by : Places
+  places_by = record { xy = map point_by (range_with_len 0 shape.plan.vertices) }
 
-  made_length : length made.xy ≡ shape.plan.vertices
-  made_length = length-map (range_with_len 0 shape.plan.vertices) point_of ∙ length-range_with_len 0 shape.plan.vertices
+  pub places_by_fit : length places_by.xy ≡ shape.plan.vertices
+  places_by_fit = length-map-range_with_len point_by 0 shape.plan.vertices
 
-  made_place : (v : ℕ) → v < shape.plan.vertices → place made.xy v ≡ point_of v
-  made_place v within =
-      let number : 0 + v ≡ v = omega arith in
-      get_or-map point_of (range_with_len 0 shape.plan.vertices) v 0 origin (omega (arith, within, length-range_with_len 0 shape.plan.vertices))
-      ∙ ap point_of (get_or-range_with_len 0 shape.plan.vertices v 0 within ∙ number)
+  along_point : (axis : Axis) (v : ℕ) → along axis (point_by v) ≡ numbers axis (node_of axis shape v)
+  along_point X v = refl
+  along_point Y v = refl
 
-  along_made : (axis : Axis) (v : ℕ) → along axis (point_of v) ≡ numbers axis (node_of axis shape v)
-  along_made X v = refl
-  along_made Y v = refl
+  pub along_places_by : (axis : Axis) (v : ℕ) → v < shape.plan.vertices → along axis (place places_by.xy v) ≡ numbers axis (node_of axis shape v)
+  along_places_by axis v within =
+      ap (along axis) (get_or-map-range_with_len point_by 0 shape.plan.vertices v v origin within (omega arith)) ∙ along_point axis v
 
-  made_along : (axis : Axis) (v : ℕ) → v < shape.plan.vertices → along axis (place made.xy v) ≡ numbers axis (node_of axis shape v)
-  made_along axis v within = ap (along axis) (made_place v within) ∙ along_made axis v
-
-  pub made_solves : ((axis : Axis) → IsSolution (arcs_of axis shape choices) (numbers axis)) → SolvesGraphs shape choices made
-  made_solves solve = record {
-    places_fit = made_length;
-    level = λ axis v w hv hw same. made_along axis v hv ∙ ap (numbers axis) same ∙ sym (made_along axis w hw);
-    met = λ axis i within v w hv hw from to.
-        let step = solve axis i within in
-        let low : along axis (place made.xy v) ≡ numbers axis (arc_at (arcs_of axis shape choices) i).from = made_along axis v hv ∙ ap (numbers axis) from in
-        let high : along axis (place made.xy w) ≡ numbers axis (arc_at (arcs_of axis shape choices) i).to = made_along axis w hw ∙ ap (numbers axis) to in
-        omega (arith, ints, step, low, high);
-  }
+-- numbers that solve the graphs give places that solve the choices
+solved_by : (shape : Shape) (choices : List Choice) (numbers : Axis → ℕ → ℤ) → ((axis : Axis) → IsSolution (arcs_of axis shape choices) (numbers axis)) →
+    SolvesGraphs shape choices (places_by shape numbers)
+solved_by shape choices numbers solve = record {
+  places_fit = places_by_fit shape numbers;
+  level = λ axis v w hv hw same. along_places_by shape numbers axis v hv ∙ ap (numbers axis) same ∙ sym (along_places_by shape numbers axis w hw);
+  met = λ axis i within v w hv hw from to.
+      let step = solve axis i within in
+      let low = along_places_by shape numbers axis v hv ∙ ap (numbers axis) from in
+      let high = along_places_by shape numbers axis w hw ∙ ap (numbers axis) to in
+      omega (arith, ints, step, low, high);
+}
 
 -- a path begins with an arc
 path_begins : (arcs : List Arc) (a b : ℕ) → HasPath arcs a b → (i : ℕ) × (i < length arcs) × ((arc_at arcs i).from ≡ a)
@@ -76,7 +73,7 @@ module _ (shape : Shape) (choices : List Choice) (drawing : HasDrawing shape) (f
   pub solved_without_cycle : ((axis : Axis) → HasCycle (arcs_of axis shape choices) → ⊥) → (places : Places) × Solves shape choices places
   solved_without_cycle none =
       let numbers : Axis → ℕ → ℤ = λ axis. (some_solution (arcs_of axis shape choices) (none axis)).0 in (
-        made shape choices numbers,
-        solves_from_graphs shape choices drawing fit (made shape choices numbers)
-            (made_solves shape choices numbers (λ axis. (some_solution (arcs_of axis shape choices) (none axis)).1)),
+        places_by shape numbers,
+        solves_from_graphs shape choices drawing fit (places_by shape numbers)
+            (solved_by shape choices numbers (λ axis. (some_solution (arcs_of axis shape choices) (none axis)).1)),
       )

@@ -13,7 +13,7 @@ use Rattle.bars.specs.Solutions.{choice_at}
 use Rattle.bars.proofs.Laws.{GoesAlong, is_axis_same, is_axis_at}
 use Rattle.shape_graphs.specs.declared.graph.Arc.{Arc}
 use Rattle.shape_graphs.specs.Arcs.{arc_at, no_arc}
-use Rattle.shape_graphs.specs.Graphs.{piece_arc, side_arc, piece_arcs, choice_arcs, arcs_of}
+use Rattle.shape_graphs.specs.Graphs.{piece_arc, side_arc, piece_arcs, choice_arcs, arcs_of, piece_arc_along, choice_arc_along}
 use Rattle.shape_graphs.proofs.FilterMaps.{filter_map_from, filter_map_has}
 
 -- the side of the choice keeps apart along the axis
@@ -36,12 +36,6 @@ given {B} true x y is = (refl, some_same is)
 given {B} false x y is = absurd (let e : ◌≡◌ {A = Option B} None (Some y) = is in cc)
 
 module _ (axis : Axis) (shape : Shape) (choices : List Choice) where
-  abbrev piece_step : ℕ → Option Arc
-  piece_step i = if is_along axis shape i then Some (piece_arc axis shape i) else None
-
-  abbrev choice_step : Choice → Option Arc
-  choice_step choice = if is_axis (side_axis choice.side) axis then Some (side_arc shape choice.s choice.t choice.side) else None
-
   abbrev no_choice : Choice
   no_choice = record { s = 0; t = 0; side = 0 }
 
@@ -53,16 +47,16 @@ module _ (axis : Axis) (shape : Shape) (choices : List Choice) where
 
   from_pieces : (k : ℕ) → k < length (piece_arcs axis shape) → ComesFrom axis shape choices (slice_index_or (piece_arcs axis shape) k no_arc)
   from_pieces k within =
-      let found = filter_map_from piece_step numbers 0 no_arc k within in
+      let found = filter_map_from (piece_arc_along axis shape) numbers 0 no_arc k within in
       let fits = length-range_with_len 0 (length shape.plan.pieces) in
       let inside : found.0 < length shape.plan.pieces = omega (arith, found.1, fits) in
-      let at : piece_step found.0 ≡ Some (slice_index_or (piece_arcs axis shape) k no_arc) = ap piece_step (sym (number_is found.0 inside)) ∙ found.2 in
+      let at : piece_arc_along axis shape found.0 ≡ Some (slice_index_or (piece_arcs axis shape) k no_arc) = ap (piece_arc_along axis shape) (sym (number_is found.0 inside)) ∙ found.2 in
       let is = given (is_along axis shape found.0) _ _ at in
       from_piece found.0 (record { inside = inside; along = is_axis_same _ _ is.0 }) is.1
 
   from_choices : (k : ℕ) → k < length (choice_arcs axis shape choices) → ComesFrom axis shape choices (slice_index_or (choice_arcs axis shape choices) k no_arc)
   from_choices k within =
-      let found = filter_map_from choice_step choices no_choice no_arc k within in
+      let found = filter_map_from (choice_arc_along axis shape) choices no_choice no_arc k within in
       let is = given (is_axis (side_axis (choice_at choices found.0).side) axis) _ _ found.2 in
       from_choice found.0 (record { inside = found.1; along = is_axis_same _ _ is.0 }) is.1
 
@@ -89,16 +83,16 @@ module _ (axis : Axis) (shape : Shape) (choices : List Choice) where
   has_piece_arc i goes =
       let fits = length-range_with_len 0 (length shape.plan.pieces) in
       let inside = goes.inside in
-      let gives : piece_step (slice_index_or numbers i 0) ≡ Some (piece_arc axis shape i) = ap piece_step (number_is i inside) ∙ cond-true (is_along axis shape i) _ _ (is_axis_at _ _ goes.along) in
-      let found = filter_map_has piece_step numbers 0 no_arc i (piece_arc axis shape i) (omega (arith, fits, inside)) gives in
+      let gives : piece_arc_along axis shape (slice_index_or numbers i 0) ≡ Some (piece_arc axis shape i) = ap (piece_arc_along axis shape) (number_is i inside) ∙ cond-true (is_along axis shape i) _ _ (is_axis_at _ _ goes.along) in
+      let found = filter_map_has (piece_arc_along axis shape) numbers 0 no_arc i (piece_arc axis shape i) (omega (arith, fits, inside)) gives in
       let both = length-append (piece_arcs axis shape) (choice_arcs axis shape choices) in
       (found.0, omega (arith, both, found.1), get_or_append_left (piece_arcs axis shape) (choice_arcs axis shape choices) no_arc found.0 found.1 ∙ found.2)
 
   -- every choice that keeps apart along the axis has its arc
   pub has_choice_arc : (j : ℕ) → KeepsAlong axis choices j → HasArc (side_arc shape (choice_at choices j).s (choice_at choices j).t (choice_at choices j).side)
   has_choice_arc j keeps =
-      let gives : choice_step (choice_at choices j) ≡ Some (side_arc shape (choice_at choices j).s (choice_at choices j).t (choice_at choices j).side) =
+      let gives : choice_arc_along axis shape (choice_at choices j) ≡ Some (side_arc shape (choice_at choices j).s (choice_at choices j).t (choice_at choices j).side) =
       cond-true (is_axis (side_axis (choice_at choices j).side) axis) _ _ (is_axis_at _ _ keeps.along) in
-      let found = filter_map_has choice_step choices no_choice no_arc j _ keeps.inside gives in
+      let found = filter_map_has (choice_arc_along axis shape) choices no_choice no_arc j _ keeps.inside gives in
       let both = length-append (piece_arcs axis shape) (choice_arcs axis shape choices) in
       (length (piece_arcs axis shape) + found.0, omega (arith, both, found.1), get_or-append-add (piece_arcs axis shape) (choice_arcs axis shape choices) found.0 no_arc ∙ found.2)

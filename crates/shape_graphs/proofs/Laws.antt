@@ -11,8 +11,8 @@ pub use Rattle.shape_graphs.proofs.Solving.{first_below, IsTaken, IsSolid, solid
 pub use Rattle.shape_graphs.proofs.PathLemmas.{one_arc, arc_then, joined_paths, no_cycle_in_order, cycle_is_one}
 pub use Rattle.shape_graphs.proofs.SolutionLemmas.{path_rises_by_one, path_by_first, path_through_first, no_path, path_decided, same_paths, cycle_decided, some_solution, no_cycle_in_solution}
 pub use Rattle.shape_graphs.proofs.SimpleLemmas.{simple_cycle}
--- choices that some places solve have no cycle
-pub use Rattle.shape_graphs.proofs.Existence.{no_cycle_where_solved}
+-- places by numbers on the nodes, and choices that some places solve, which have no cycle
+pub use Rattle.shape_graphs.proofs.Existence.{places_by, places_by_fit, along_places_by, no_cycle_where_solved}
 -- least keys, and what verdicts say
 pub use Rattle.shape_graphs.proofs.KeyLemmas.{not_before_least, one_least, SomeCycle, AllAbove, SomeLeast, IsSettled, exact}
 -- choices that fit, and the arcs of the choices, with one choice more or less

@@ -1,8 +1,9 @@
 -- Arcs that are added one after the other.
-use Rattle.std.proofs.Common.{◌≡◌, ℕ, zero, suc, ◌+◌, ◌<◌, Option, Some, None, List, [], ◌∷◌, ◌++◌, length, slice_index_or, take, sym, ap, refl, ◌∙◌, arith, append_assoc}
+use Rattle.std.proofs.Common.{◌≡◌, ℕ, suc, ◌+◌, ◌<◌, Option, Some, None, List, [], ◌∷◌, ◌++◌, length, slice_index_or, take, sym, ap, refl, ◌∙◌, arith, append_assoc}
 use Rattle.std.specs.Prelude.{option_to_list}
 use Rattle.std.specs.List.{filter_map, cons_option, range_with_len}
 use Rattle.std.proofs.lemmas.List.{append-nil, take_more}
+use Rattle.compact_types.proofs.Laws.{range_push}
 
 -- what is kept of one value more
 cons_some : {B : Type 0} (o : Option B) (ys : List B) → cons_option o ys ≡ option_to_list o ++ ys
@@ -17,16 +18,10 @@ kept_last {A} {B} h (y ∷ xs) x =
     ∙ ap (λ (l : List B). l ++ option_to_list (h x)) (sym (cons_some (h y) (filter_map h xs)))
 
 -- a range with one number more
-range_last : (a n : ℕ) → range_with_len a (suc n) ≡ range_with_len a n ++ (a + n) ∷ []
-range_last a zero = let none : a + 0 ≡ a = omega arith in ap (λ (x : ℕ). x ∷ []) (sym none)
-range_last a (suc n) =
-    let next : a + 1 + n ≡ a + suc n = omega arith in
-    ap (λ (l : List ℕ). a ∷ l) (range_last (a + 1) n) ∙ ap (λ (x : ℕ). a ∷ (range_with_len (a + 1) n ++ x ∷ [])) next
-
 pub range_more : {B : Type 0} (h : ℕ → Option B) (i n : ℕ) → n ≡ suc i → filter_map h (range_with_len 0 n) ≡ filter_map h (range_with_len 0 i) ++ option_to_list (h i)
 range_more {B} h i n is =
     let number : 0 + i ≡ i = omega arith in
-    ap (λ (k : ℕ). filter_map h (range_with_len 0 k)) is ∙ ap (filter_map h) (range_last 0 i) ∙ ap (λ (x : ℕ). filter_map h (range_with_len 0 i ++ x ∷ [])) number
+    ap (λ (k : ℕ). filter_map h (range_with_len 0 k)) is ∙ ap (filter_map h) (range_push 0 i) ∙ ap (λ (x : ℕ). filter_map h (range_with_len 0 i ++ x ∷ [])) number
     ∙ kept_last h (range_with_len 0 i) i
 
 pub list_more : {A B : Type 0} (h : A → Option B) (xs : List A) (d : A) (i : ℕ) → i < length xs →

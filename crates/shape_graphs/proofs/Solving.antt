@@ -5,14 +5,9 @@ use Rattle.compact_types.specs.declared.places.Axis.{Axis}
 use Rattle.compact_types.specs.declared.places.Places.{Places}
 use Rattle.compact_types.specs.declared.search.Choice.{Choice}
 use Rattle.compact_types.specs.declared.plan.Shape.{Shape}
-use Rattle.compact_types.specs.declared.places.Point.{Point}
-use Rattle.compact_types.specs.declared.plan.Piece.{Piece}
-use Rattle.compact_types.specs.declared.plan.Way.{Way}
-use Rattle.compact_types.specs.declared.plan.Way.TheVariants.{East, West, High, Low}
-use Rattle.compact_types.specs.Axes.{IsStraight, low_end, high_end}
 use Rattle.compact_types.specs.Drawings.{HasWays}
-use Rattle.compact_types.specs.Lookups.{place, piece_at, way_at, axis_of, other_axis}
-use Rattle.compact_types.specs.Ways.{HasWay}
+use Rattle.compact_types.specs.Lookups.{piece_at, way_at, axis_of, other_axis}
+use Rattle.compact_types.proofs.Laws.{way_from_straight}
 use Rattle.bars.specs.Lines.{line_of}
 use Rattle.bars.specs.Segments.{segment_count, node_of}
 use Rattle.bars.specs.Sides.{side_axis, first_at_side, second_at_side, SideHolds}
@@ -101,14 +96,6 @@ meets_piece axis shape places ways i goes v w v_vertex w_vertex from to =
     let level_v = level_node shape places ways axis v (low_of shape i) from in
     let level_w = level_node shape places ways axis w (high_of shape i) to in
     omega (arith, ints, rise, level_v, level_w)
-
--- a piece that stands straight along its axis has its way
-way_from_straight : (way : Way) (piece : Piece) (points : List Point) →
-    IsStraight (axis_of way) (place points (low_end way piece)) (place points (high_end way piece)) → HasWay way (place points piece.from) (place points piece.to)
-way_from_straight East piece points straight = (straight.before, sym straight.level)
-way_from_straight West piece points straight = (straight.before, straight.level)
-way_from_straight High piece points straight = (straight.before, sym straight.level)
-way_from_straight Low piece points straight = (straight.before, straight.level)
 
 module _ (shape : Shape) (choices : List Choice) (drawing : HasDrawing shape) (fit : Fit shape choices) where
   -- the segments of a choice are there

@@ -1,5 +1,5 @@
 -- Least keys, and what a verdict says of a list of choices.
-use Rattle.std.specs.Prelude.{◌≡◌, ℕ, ◌<◌, pos, ℤ, ◌<ℤ◌, ◌≤ℤ◌, List, [], ◌∷◌, ◌++◌, length}
+use Rattle.std.specs.Prelude.{◌≡◌, ℕ, ◌<◌, ℤ, ◌<ℤ◌, ◌≤ℤ◌, List, [], ◌∷◌, ◌++◌, length}
 use Rattle.compact_types.specs.declared.places.Axis.{Axis}
 use Rattle.compact_types.specs.declared.places.Axis.TheVariants.{X, Y}
 use Rattle.compact_types.specs.declared.places.Key.{Key}
@@ -9,16 +9,12 @@ use Rattle.compact_types.specs.declared.search.Choice.{Choice}
 use Rattle.compact_types.specs.Bests.{Objective, worth_of}
 use Rattle.compact_types.specs.Drawings.{IsFromZero}
 use Rattle.compact_types.specs.Lookups.{along, place}
+use Rattle.compact_types.specs.Magnitudes.{IsNowhereNegative}
 use Rattle.bars.specs.Solutions.{Solves}
 use Rattle.shape_graphs.specs.declared.measure.Verdict.{Verdict}
 use Rattle.shape_graphs.specs.declared.measure.Verdict.TheVariants.{Cyclic, Above, Least}
 use Rattle.shape_graphs.specs.Graphs.{arcs_of}
 use Rattle.shape_graphs.specs.Paths.{HasCycle, IsCycle}
-
--- no coordinate is negative
-abbrev pub IsNowhereNegative : Places → Type 0
-IsNowhereNegative places =
-    (axis : Axis) (v : ℕ) → v < length places.xy → pos 0 ≤ℤ (along axis (place places.xy v))
 
 -- each coordinate is at most that of the other places
 abbrev pub AreNowhereAbove : Places → Places → Type 0

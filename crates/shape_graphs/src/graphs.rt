@@ -3,10 +3,8 @@
 ghost use Rattle.std.specs.Prelude.{◌≡◌, ◌<◌, ◌++◌, pos, length};
 ghost use Rattle.std.specs.Prelude.{IfOk, OnOk, option_to_list};
 ghost use Rattle.compact_types.specs.declared.places.Axis.TheVariants as axis;
-ghost use Rattle.compact_types.specs.Axes as ends;
 ghost use Rattle.compact_types.specs.Lookups.{axis_of};
 ghost use Rattle.bars.specs.Lines as lines;
-ghost use Rattle.bars.specs.Segments as nodes;
 ghost use Rattle.bars.specs.Sides.{side_axis};
 ghost use Rattle.bars.specs.Solutions.{Fit, IsChoice, IsSound};
 ghost use Rattle.shape_graphs.specs.Graphs as graphs;
@@ -15,7 +13,7 @@ ghost use Rattle.shape_graphs.specs.Graphs.{piece_arc_along, choice_arc_along};
 
 use crate::graph::{Arc, DiffGraph};
 use bars::Bars;
-use compact_types::{Axis, Choice, Extension, Items, NoMemory, Piece, Way};
+use compact_types::{Axis, Choice, Extension, Items, NoMemory, Way, high_end, low_end};
 use std::alloc::Global;
 
 /// The column graph of the choices, and then their row graph: first an arc for each piece along the
@@ -51,7 +49,7 @@ fn graph_along(bars: &Bars, choices: &[Choice], axis: Axis, arcs: Items<Arc>) ->
     ensures { IsGraphOf axis bars.now choices.now result }
 {
     let _choices = choices;
-    let nodes = node_count(bars, axis);
+    let nodes = bars.node_count(axis);
     DiffGraph { nodes, arcs }
 }
 
@@ -110,8 +108,8 @@ fn piece_arc(bars: &Bars, axis: Axis, i: usize) -> Option<Arc>
         return None;
     }
     Some(Arc {
-        from: node_of(bars, axis, low_end(way, piece)),
-        to: node_of(bars, axis, high_end(way, piece)),
+        from: bars.node_of(axis, low_end(way, piece)),
+        to: bars.node_of(axis, high_end(way, piece)),
         least: 1,
         pull: 1,
     })
@@ -155,47 +153,6 @@ fn apart(from: u32, to: u32) -> Arc
         to,
         least,
         pull: 0,
-    }
-}
-
-/// How many nodes the graph of the axis has.
-fn node_count(bars: &Bars, axis: Axis) -> u32
-    ensures { result ≡ nodes.node_count axis bars.now }
-{
-    match axis {
-        Axis::X => bars.columns(),
-        Axis::Y => bars.rows(),
-    }
-}
-
-/// The node of the vertex in the graph of the axis.
-fn node_of(bars: &Bars, axis: Axis, v: u32) -> u32
-    requires { v < bars.now.plan.vertices }
-    ensures { result ≡ nodes.node_of axis bars.now v }
-{
-    match axis {
-        Axis::X => bars.column_of(v),
-        Axis::Y => bars.row_of(v),
-    }
-}
-
-/// The western or the lower end of a piece.
-fn low_end(way: Way, piece: Piece) -> u32
-    ensures { result ≡ ends.low_end way piece }
-{
-    match way {
-        Way::East | Way::High => piece.from,
-        Way::West | Way::Low => piece.to,
-    }
-}
-
-/// The eastern or the higher end of a piece.
-fn high_end(way: Way, piece: Piece) -> u32
-    ensures { result ≡ ends.high_end way piece }
-{
-    match way {
-        Way::East | Way::High => piece.to,
-        Way::West | Way::Low => piece.from,
     }
 }
 

@@ -2,7 +2,7 @@
 use Rattle.std.specs.Prelude.{◌≡◌, ℕ, ◌^◌, ◌<◌, ◌≤◌, List, length}
 use Rattle.shape_graphs.specs.declared.graph.DiffGraph.{DiffGraph}
 use Rattle.diff_flow.specs.declared.steps.Steps.{Steps}
-use Rattle.diff_flow.specs.declared.network.Better.{Better}
+use Rattle.diff_flow.specs.declared.better.Better.{Better}
 use Rattle.diff_flow.specs.Improving.{IsBestByNumbers}
 use Rattle.diff_flow.specs.inner.Steps.{AreMet}
 use Rattle.diff_flow.specs.inner.Numbers.{height}

@@ -4,7 +4,7 @@ use Rattle.compact_types.specs.Magnitudes.{IsWithin}
 use Rattle.shape_graphs.specs.declared.graph.Arc.{Arc}
 use Rattle.shape_graphs.specs.Arcs.{arc_at}
 use Rattle.shape_graphs.specs.Flows.{at_node, amount_at, net, BalancesAt}
-use Rattle.diff_flow.specs.Tight.{number_at}
+use Rattle.shape_graphs.specs.Flows.{number_at}
 
 -- what an arc brings in at the node, where it carries a number
 abbrev pub brought : Arc → ℤ → ℕ → ℤ

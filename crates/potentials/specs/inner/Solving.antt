@@ -1,14 +1,12 @@
 -- What is known of the graphs and flows of a solver.
 use Rattle.std.specs.Prelude.{◌≡◌, ℕ, ◌≤◌, pos, ℤ, List, [], ◌∷◌, ◌++◌, length}
 use Rattle.compact_types.specs.declared.limits.TheConstants.{MOST_VERTICES}
-use Rattle.compact_types.specs.declared.places.Axis.{Axis}
-use Rattle.compact_types.specs.declared.places.Axis.TheVariants.{X, Y}
 use Rattle.compact_types.specs.declared.search.Flow.{Flow}
 use Rattle.shape_graphs.specs.declared.graph.Arc.{Arc}
 use Rattle.shape_graphs.specs.declared.graph.DiffGraph.{DiffGraph}
-use Rattle.shape_graphs.specs.Flows.{Balances, bound_of, IsFlowOn}
+use Rattle.shape_graphs.specs.Flows.{Balances, bound_of, IsFlowOn, number_at}
 use Rattle.shape_graphs.specs.Paths.{HasCycle}
-use Rattle.diff_flow.specs.Tight.{AreLeastTight, AreTight, number_at}
+use Rattle.diff_flow.specs.Tight.{AreLeastTight, AreTight}
 
 -- the graph has at most as many nodes as a drawing has vertices, and no cycle
 pub record IsSolvable (graph : DiffGraph) : Type 0 where
@@ -41,8 +39,3 @@ HasTight graph flow = (numbers : ℕ → ℤ) × AreTight graph.nodes graph.arcs
 pub record AreLeastNumbers (graph : DiffGraph) (flow : Flow) (numbers : List ℤ) : Type 0 where
   pub one_for_each : length numbers ≡ graph.nodes
   pub least : AreLeastTight graph.nodes graph.arcs flow.amounts (number_at numbers)
-
--- of two lists of numbers the one along the axis
-abbrev pub numbers_along : List ℤ → List ℤ → Axis → ℕ → ℤ
-numbers_along across up X node = number_at across node
-numbers_along across up Y node = number_at up node

@@ -1,6 +1,6 @@
 use Rattle.std.proofs.Common.{◌+◌, ◌<◌, length, arith}
 use Rattle.std.proofs.lemmas.Int.{ints}
-use Rattle.diff_flow.specs.Tight.{number_at}
+use Rattle.shape_graphs.specs.Flows.{number_at}
 use Rattle.diff_flow.proofs.FlowLemmas.{surplus_is}
 use Rattle.diff_flow.proofs.SurplusLemmas.{one_more}
 use Rattle.diff_flow.proofs.flow.add_surpluses.Goals as goal

@@ -1,5 +1,5 @@
 use Rattle.std.proofs.Common.{ℕ, ◌+◌, ◌<◌, length}
-use Rattle.diff_flow.specs.Tight.{number_at}
+use Rattle.shape_graphs.specs.Flows.{number_at}
 use Rattle.diff_flow.proofs.SurplusLemmas.{IsSoFar}
 use Rattle.diff_flow.proofs.flow.add_surpluses.Given as goal
 

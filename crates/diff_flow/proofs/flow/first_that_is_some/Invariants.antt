@@ -1,5 +1,5 @@
 use Rattle.std.proofs.Common.{◌≡◌, ℕ, ◌<◌, pos}
-use Rattle.diff_flow.specs.Tight.{number_at}
+use Rattle.shape_graphs.specs.Flows.{number_at}
 use Rattle.diff_flow.proofs.flow.first_that_is_some.Given as goal
 
 abbrev pub invariant-loop-k : goal.invariant-loop-k

@@ -1,15 +1,13 @@
+use Rattle.std.proofs.Common.{◌≡◌, ◌∙◌}
 use Rattle.diff_flow.proofs.BestLemmas.{raised_not_best}
 use Rattle.diff_flow.proofs.BetterLemmas.{shown_by}
 use Rattle.diff_flow.proofs.improving.improve.Goals as goal
 
-pub better-requires : goal.better-requires
-better-requires c = (c.args.graph.now, rw c.in-Some.is at c.in_ok-network.ensures, c.requires.flow, c.requires.balances)
-
 pub returns-in_default-2-clause-improved : goal.returns-in_default-2-clause-improved
 returns-in_default-2-clause-improved c =
-    let graph = c.args.graph.now in
     let is = rw c.in-Some.is at c.in_ok-network.ensures in
-    shown_by graph _ (rw c.in_default-2.is at (c.in_ok-better.ensures graph is c.requires.balances))
+    let same : c.network.inside.graph.value ≡ c.args.graph.now = c.network.view_is ∙ is.0 in
+    shown_by c.args.graph.now _ (rw (same, c.in_default-2.is) at c.in_ok-better.ensures)
 
 pub returns-clause-exact : goal.returns-clause-exact
 returns-clause-exact c = λ best.

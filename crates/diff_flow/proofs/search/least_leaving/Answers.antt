@@ -1,4 +1,4 @@
-use Rattle.std.proofs.Common.{◌≡◌, ◌<◌, length, arith, ap, subst, sym}
+use Rattle.std.proofs.Common.{◌≡◌, ◌<◌, length, arith, ap, subst}
 use Rattle.std.proofs.lemmas.List.{get_or_read}
 use Rattle.diff_flow.specs.declared.search.Reached.{Reached}
 use Rattle.diff_flow.specs.inner.Search.{entry_at, no_entry, IsLeastLeaving, IsSeen}

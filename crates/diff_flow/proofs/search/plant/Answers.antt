@@ -1,5 +1,5 @@
 use Rattle.std.proofs.Common.{refl}
-use Rattle.diff_flow.proofs.TreeLemmas.{planted, planted_places}
+use Rattle.diff_flow.proofs.TreeLemmas.{planted}
 use Rattle.diff_flow.proofs.search.plant.Goals as goal
 
 pub returns-clause-tree : goal.returns-clause-tree

@@ -2,7 +2,7 @@ use Rattle.std.proofs.Common.{◌≡◌, ℕ, ◌<◌, length}
 use Rattle.compact_types.specs.declared.places.Axis.{Axis}
 use Rattle.compact_types.specs.Lookups.{along, place}
 use Rattle.bars.specs.Segments.{node_of}
-use Rattle.potentials.specs.inner.Solving.{numbers_along}
+use Rattle.potentials.specs.Standing.{numbers_along}
 use Rattle.potentials.proofs.standing.places_of.Given as goal
 
 abbrev pub invariant-loop-v : goal.invariant-loop-v
