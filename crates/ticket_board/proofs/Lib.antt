@@ -1,0 +1,10 @@
+pub mod Histories
+pub mod Seats
+pub mod Slots
+pub mod Belonging
+pub mod DrawnTickets
+pub mod ServedTickets
+pub mod PassedTurns
+pub mod MetSeats
+pub mod DealtSeats
+pub mod AddedEntries

@@ -1,0 +1,35 @@
+-- What a seat has in its turn.
+use Rattle.std.specs.Prelude.{◌≡◌, ◌≢◌, ◌++◌, ℕ, List, [], ◌∷◌, Option, Some, None}
+use Rattle.board.specs.declared.entries.Entry.{Entry}
+use Rattle.board.specs.Boards.{BoardView}
+use Rattle.ticket_board.specs.declared.views.Stage.TheVariants.{Serving}
+use Rattle.ticket_board.specs.declared.views.View.{View}
+use Rattle.ticket_board.specs.Passes.{entries_by}
+use Rattle.ticket_board.specs.inner.Plays.{Sat}
+use Rattle.ticket_board.specs.inner.Views.{with_ticket, serving}
+
+-- the seat is in its turn, and what is in the slot is this
+pub record IsServing {P : Type 0} (me : Sat P) (inside : Option (BoardView P)) : Type 0 where
+  pub stage : me.0.stage ≡ Serving
+  pub slot : me.1 ≡ (0, inside) ∷ []
+
+-- the seat has drawn a ticket and taken this board out of the slot
+pub record IsTaken {P : Type 0} (before : View) (board : BoardView P) (me : Sat P) : Type 0 where
+  pub ticket : ℕ
+  pub view : me.0 ≡ serving (with_ticket before ticket) board.entries
+  pub slot : me.1 ≡ (0, None) ∷ []
+
+-- the board may go back: it is of the same shape and callers, and to the history that the seat noted
+-- no entry of another caller was added
+pub record Adds {P : Type 0} (view : View) (board : BoardView P) : Type 0 where
+  pub shape : board.shape ≡ view.shape
+  pub given : board.given ≡ view.given
+  pub added : List Entry
+  pub entries : board.entries ≡ view.noted ++ added
+  pub no_other : (number : ℕ) → number ≢ view.number → entries_by number added ≡ []
+
+-- the seat is in its turn, and the board that is in the slot may go back
+pub record CanPassOn {P : Type 0} (me : Sat P) : Type 0 where
+  pub board : BoardView P
+  pub serves : IsServing me (Some board)
+  pub adds : Adds me.0 board
