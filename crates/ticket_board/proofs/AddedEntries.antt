@@ -1,6 +1,6 @@
 -- What a call adds to the board in its turn.
-use Rattle.std.proofs.Common.{◌≡◌, ◌≢◌, ℕ, eqb, List, [], ◌∷◌, ◌++◌, sym, ap, refl, ◌∙◌, subst, ne_eqb}
-use Rattle.std.specs.Prelude.{Option, Some, None, cond}
+use Rattle.std.proofs.Common.{◌≡◌, ◌≢◌, ℕ, List, [], ◌∷◌, ◌++◌, sym, ap, refl, ◌∙◌, subst, ne_eqb}
+use Rattle.std.specs.Prelude.{cond, MatchResult, Result, Ok, Err}
 use Rattle.std.proofs.lemmas.List.{append-nil}
 use Rattle.compact_types.specs.declared.search.Branch.{Branch}
 use Rattle.shape_graphs.specs.declared.measure.Verdict.{Verdict}
@@ -9,7 +9,7 @@ use Rattle.board.specs.declared.entries.Claim.TheVariants.{Yours, Taken, Strange
 use Rattle.board.specs.declared.entries.Entry.{Entry}
 use Rattle.board.specs.declared.entries.Entry.TheVariants as entry
 use Rattle.board.specs.declared.entries.Settled.{Settled}
-use Rattle.board.specs.Boards.{BoardView, IsClaimAnswer, after_claim, after_settle}
+use Rattle.board.specs.Boards.{BoardView, IsClaimAnswer, after_settle}
 use Rattle.board.specs.Histories.{caller_of}
 use Rattle.ticket_board.specs.declared.views.View.{View}
 use Rattle.ticket_board.specs.Passes.{entries_by}
@@ -52,3 +52,8 @@ module _ {P : Type 0} where
       let settled = entry.Settled view.number id what in
       adds_these view board after me taken its (ap (λ (board : BoardView P). board.shape) same) (ap (λ (board : BoardView P). board.given) same) (settled ∷ [])
       (ap (λ (board : BoardView P). board.entries) same) (one_entry view.number settled refl)
+
+  pub adds_by_result : {E : Type 0} (view : View) (board after : BoardView P) (me : Sat P) (id : ℕ) (verdict : Verdict P) (result : Result Settled E) → IsTaken view board me → IsBoardOf view board →
+      MatchResult result (λ what. after ≡ after_settle board view.number id verdict what) (λ refused. after ≡ board) → Adds me.0 after
+  adds_by_result view board after me id verdict (Ok what) taken its same = adds_settle view board after me id verdict what taken its same
+  adds_by_result view board after me id verdict (Err refused) taken its same = adds_nothing view board after me taken its same

@@ -1,19 +1,16 @@
 -- The table at the start, and dealing out one more seat.
-use Rattle.std.proofs.Common.{◌≡◌, ◌≢◌, ◌⊎◌, inl, inr, ⊎_elim, ℕ, zero, suc, ◌+◌, ◌%◌, ◌^◌, ◌<◌, ◌≤◌, Bool, List, [], ◌∷◌, ◌++◌, length, sym, ap, refl, ◌∙◌, subst, arith, get_or, set, length-set}
-use Rattle.std.specs.Prelude.{Option, Some, None, cond}
+use Rattle.std.proofs.Common.{◌≡◌, inl, inr, ⊎_elim, ℕ, zero, suc, ◌+◌, ◌%◌, ◌^◌, ◌<◌, ◌≤◌, List, [], ◌∷◌, ◌++◌, length, sym, ap, refl, ◌∙◌, subst, arith, set, length-set}
+use Rattle.std.specs.Prelude.{Some, cond}
 use Rattle.std.proofs.lemmas.List.{length-append}
-use mathlib.Core.Option.{some, none, some-injective, some-ne-none}
+use mathlib.Core.Option.{some, some-injective, some-ne-none}
 use lib.ListN.{get_elem?}
-use Rattle.atomic_table.specs.Table.{State, Me, step, Splits, opening}
+use Rattle.atomic_table.specs.Table.{Splits, opening}
 use Rattle.atomic_table.proofs.Lists.{at_longer}
-use Rattle.board.specs.declared.entries.Entry.{Entry}
-use Rattle.board.specs.Boards.{BoardView, IsCaller}
-use Rattle.ticket_board.specs.declared.views.Stage.{Stage}
-use Rattle.ticket_board.specs.declared.views.Stage.TheVariants.{Gone, Idle, Waiting, Serving}
+use Rattle.board.specs.Boards.{BoardView}
+use Rattle.ticket_board.specs.declared.views.Stage.TheVariants.{Idle}
 use Rattle.ticket_board.specs.declared.views.View.{View}
-use Rattle.ticket_board.specs.Passes.{Begins, entries_by}
 use Rattle.ticket_board.specs.inner.Views.{has_ticket, IsThere, first_view, dealer_after, dealt_next}
-use Rattle.ticket_board.specs.inner.Rules.{HoldsTicket, IsInQueue, IsInTurn, IsOut, IsAtHome, IsSeated, IsKept, tickets_out}
+use Rattle.ticket_board.specs.inner.Rules.{IsInQueue, IsOut, IsSeated, IsKept, tickets_out}
 use Rattle.ticket_board.specs.inner.Dealing.{IsFounded}
 use Rattle.ticket_board.proofs.Histories.{begins_itself, nothing_begins}
 use Rattle.ticket_board.proofs.Seats.{weight, IsServingStage, tickets_set, tickets_with, each_set, each_with, out_stays}

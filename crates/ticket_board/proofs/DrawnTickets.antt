@@ -1,16 +1,15 @@
 -- A draw keeps the rule.
-use Rattle.std.proofs.Common.{◌≡◌, ◌≢◌, ◌⊎◌, inl, inr, ⊎_elim, ℕ, zero, suc, ◌+◌, ◌%◌, ◌^◌, ◌<◌, ◌≤◌, Bool, List, [], ◌∷◌, ◌++◌, length, sym, ap, refl, ◌∙◌, subst, arith, get_or, set, length-set}
-use Rattle.std.specs.Prelude.{Option, Some, cond}
+use Rattle.std.proofs.Common.{◌≡◌, ◌≢◌, inl, inr, ⊎_elim, ℕ, ◌+◌, ◌%◌, ◌^◌, List, [], ◌∷◌, length, sym, ap, refl, ◌∙◌, subst, arith, get_or, set, length-set}
+use Rattle.std.specs.Prelude.{Option, cond}
 use mathlib.Core.Option.{some, none}
 use native.Mathlib.Nat.{mod-add-mod}
 use lib.ListN.{get_elem?}
-use Rattle.atomic_table.specs.Table.{State, Me, step, keeps, stepped, Allows}
+use Rattle.atomic_table.specs.Table.{State, step, keeps, Allows}
 use Rattle.board.specs.Boards.{BoardView}
-use Rattle.ticket_board.specs.declared.views.Stage.{Stage}
-use Rattle.ticket_board.specs.declared.views.Stage.TheVariants.{Gone, Idle, Waiting, Serving}
+use Rattle.ticket_board.specs.declared.views.Stage.TheVariants.{Idle}
 use Rattle.ticket_board.specs.declared.views.View.{View}
 use Rattle.ticket_board.specs.inner.Views.{has_ticket, IsThere, with_ticket}
-use Rattle.ticket_board.specs.inner.Rules.{HoldsTicket, IsInQueue, IsInTurn, IsOut, IsAtHome, IsSeated, IsKept, tickets_out}
+use Rattle.ticket_board.specs.inner.Rules.{IsInQueue, IsOut, IsSeated, IsKept, tickets_out}
 use Rattle.ticket_board.specs.inner.Plays.{Sat, drew}
 use Rattle.ticket_board.proofs.Seats.{put, put_here, put_else, weight, IsServingStage, tickets_set, each_set, seated_set, queue_stays, stays_in_queue, out_stays}
 

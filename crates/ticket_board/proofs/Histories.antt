@@ -1,7 +1,6 @@
 -- Histories that begin others, and the entries of one caller in them.
-use Rattle.std.proofs.Common.{◌≡◌, ◌≢◌, ◌⊎◌, inl, inr, ℕ, ◌+◌, ◌<◌, ◌≤◌, eqb, List, [], ◌∷◌, ◌++◌, length, sym, ap, refl, ◌∙◌, subst, arith, get_or, ne_eqb, eq-eqb}
-use Rattle.std.specs.Prelude.{All, cond, false, true}
-use Rattle.std.proofs.lemmas.List.{length-append, append_assoc, append-nil}
+use Rattle.std.proofs.Common.{◌≡◌, ℕ, ◌≤◌, eqb, List, [], ◌∷◌, ◌++◌, length, sym, ap, refl, ◌∙◌, arith, get_or}
+use Rattle.std.proofs.lemmas.List.{append_assoc, append-nil}
 use Rattle.std.proofs.lemmas.List.Elements.{filter-append}
 use Rattle.board.specs.declared.entries.Entry.{Entry}
 use Rattle.board.specs.Histories.{caller_of}

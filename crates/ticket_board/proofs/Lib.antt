@@ -8,3 +8,7 @@ pub mod PassedTurns
 pub mod MetSeats
 pub mod DealtSeats
 pub mod AddedEntries
+pub mod AnsweredTurns
+pub mod NewPasses
+pub mod SettledBranches
+pub mod StartingProofs

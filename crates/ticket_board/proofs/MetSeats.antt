@@ -1,23 +1,22 @@
 -- Joining two seats, and comparing what was seen with what was told, keep the rule.
-use Rattle.std.proofs.Common.{◌≡◌, ◌≢◌, ◌⊎◌, inl, inr, ⊎_elim, ℕ, zero, suc, ◌+◌, ◌%◌, ◌^◌, ◌<◌, ◌≤◌, Bool, List, [], ◌∷◌, ◌++◌, length, sym, ap, refl, ◌∙◌, subst, arith, get_or, set, length-set}
-use Rattle.std.specs.Prelude.{Option, Some, None, cond}
+use Rattle.std.proofs.Common.{◌≡◌, ◌⊎◌, inl, inr, ⊎_elim, ℕ, ◌+◌, ◌%◌, ◌^◌, ◌<◌, ◌≤◌, List, [], ◌∷◌, ◌++◌, length, sym, ap, refl, ◌∙◌, subst, arith, get_or, set, length-set}
+use Rattle.std.specs.Prelude.{Option, cond}
 use Rattle.std.proofs.lemmas.Bool.{cases_lt}
-use Rattle.std.proofs.lemmas.List.{append-nil, length-append, nil_from_length, append_assoc}
+use Rattle.std.proofs.lemmas.List.{append-nil, length-append, nil_from_length}
 use mathlib.Core.Option.{some, none}
 use lib.ListN.{get_elem?}
 use lib.Seq.{set-get_or}
 use Rattle.atomic_table.specs.Table.{State, Me, step, keeps, stepped, Allows, Joins}
 use Rattle.board.specs.declared.entries.Entry.{Entry}
 use Rattle.board.specs.Boards.{BoardView}
-use Rattle.ticket_board.specs.declared.views.Stage.{Stage}
-use Rattle.ticket_board.specs.declared.views.Stage.TheVariants.{Gone, Idle, Waiting, Serving}
+use Rattle.ticket_board.specs.declared.views.Stage.TheVariants.{Idle}
 use Rattle.ticket_board.specs.declared.views.View.{View}
 use Rattle.ticket_board.specs.Passes.{Begins, entries_by}
 use Rattle.ticket_board.specs.inner.Views.{has_ticket, IsThere, told_of, nobody}
-use Rattle.ticket_board.specs.inner.Rules.{HoldsTicket, IsInQueue, IsInTurn, IsOut, IsAtHome, IsSeated, IsKept, tickets_out}
-use Rattle.ticket_board.specs.inner.Plays.{Sat, IsCompared, compared}
+use Rattle.ticket_board.specs.inner.Rules.{IsInQueue, IsOut, IsSeated, IsKept, tickets_out}
+use Rattle.ticket_board.specs.inner.Plays.{Sat, compared}
 use Rattle.ticket_board.proofs.Histories.{begins_itself, shorter_begins, by-append}
-use Rattle.ticket_board.proofs.Seats.{weight, IsServingStage, tickets_set, each_set, seated_set, queue_stays, stays_in_queue, out_stays}
+use Rattle.ticket_board.proofs.Seats.{weight, IsServingStage, tickets_set, each_set, seated_set, out_stays}
 
 -- between two histories that have the same entries of a caller there is none of its own
 same_between : (number : ℕ) (a b whole mine : List Entry) → Begins a b → Begins b whole → entries_by number a ≡ mine → entries_by number whole ≡ mine → entries_by number b ≡ mine
@@ -130,17 +129,17 @@ module _ {P : Type 0} (start : BoardView P) (first : ℕ) where
       let told = told_of v w in
       let before = r.seated other w (away s at apart there) (subst IsThere (sym rests) tt) in
       let one = idle_rule s r me v told idle at (light_of v idle)
-          (subst (λ stage. IsInQueue r.served (r.served + tickets_out s.views) r.holder r.history s.homes me told stage) (sym idle) tt)
-          (λ there. record {
-            shape = known.shape;
-            given = known.given;
-            number = known.number;
-            caller = known.caller;
-            seen = known.seen;
-            told = before.seen;
-            own = known.own;
-            deals = known.deals;
-          }) in
+      (subst (λ stage. IsInQueue r.served (r.served + tickets_out s.views) r.holder r.history s.homes me told stage) (sym idle) tt)
+      (λ there. record {
+        shape = known.shape;
+        given = known.given;
+        number = known.number;
+        caller = known.caller;
+        seen = known.seen;
+        told = before.seen;
+        own = known.own;
+        deals = known.deals;
+      }) in
       idle_rule (record { words = s.words; homes = s.homes; views = set s.views me told }) one other w nobody rests there refl tt (λ there. absurd there)
     where
       away : (s : State (Option (BoardView P)) View) → get_elem? s.views me ≡ some v → ¬ (other ≡ me) → get_elem? (set s.views me (told_of v w)) other ≡ some w → get_elem? s.views other ≡ some w

@@ -1,20 +1,18 @@
 -- Passing the turn on keeps the rule.
-use Rattle.std.proofs.Common.{◌≡◌, ◌≢◌, ◌⊎◌, inl, inr, ⊎_elim, ℕ, zero, suc, ◌+◌, ◌%◌, ◌^◌, ◌<◌, ◌≤◌, Bool, List, [], ◌∷◌, ◌++◌, length, sym, ap, refl, ◌∙◌, subst, arith, get_or, set, length-set}
-use Rattle.std.specs.Prelude.{Option, Some, None, cond}
+use Rattle.std.proofs.Common.{◌≡◌, ◌≢◌, inl, ℕ, ◌+◌, ◌%◌, ◌^◌, List, [], ◌∷◌, ◌++◌, length, sym, ap, refl, ◌∙◌, subst, arith, get_or, set, length-set}
+use Rattle.std.specs.Prelude.{Option, Some, cond}
 use Rattle.std.proofs.lemmas.List.{append-nil}
 use mathlib.Core.Option.{some, none}
-use mathlib.Core.Option as maybe
 use native.Mathlib.Nat.{mod-add-mod}
 use lib.ListN.{get_elem?}
-use Rattle.atomic_table.specs.Table.{State, Me, step, gives, stepped, put_back, Allows}
+use Rattle.atomic_table.specs.Table.{State, step, gives, Allows}
 use Rattle.board.specs.declared.entries.Entry.{Entry}
 use Rattle.board.specs.Boards.{BoardView}
-use Rattle.ticket_board.specs.declared.views.Stage.{Stage}
-use Rattle.ticket_board.specs.declared.views.Stage.TheVariants.{Gone, Idle, Waiting, Serving}
+use Rattle.ticket_board.specs.declared.views.Stage.TheVariants.{Serving}
 use Rattle.ticket_board.specs.declared.views.View.{View}
 use Rattle.ticket_board.specs.Passes.{Begins, entries_by}
 use Rattle.ticket_board.specs.inner.Views.{has_ticket, IsThere, after_turn}
-use Rattle.ticket_board.specs.inner.Rules.{HoldsTicket, IsInQueue, IsInTurn, IsOut, IsAtHome, IsSeated, IsKept, tickets_out}
+use Rattle.ticket_board.specs.inner.Rules.{IsInQueue, IsSeated, IsKept, tickets_out}
 use Rattle.ticket_board.specs.inner.Plays.{Sat, passed_on}
 use Rattle.ticket_board.specs.inner.Turns.{Adds}
 use Rattle.ticket_board.proofs.Histories.{begins_itself, begins_longer, begins_with, by-append}

@@ -1,5 +1,5 @@
 -- A watch keeps the rule.
-use Rattle.std.proofs.Common.{◌≡◌, ◌≢◌, ◌⊎◌, inl, inr, ⊎_elim, ℕ, zero, suc, ◌+◌, ◌%◌, ◌^◌, ◌<◌, ◌≤◌, Bool, List, [], ◌∷◌, ◌++◌, length, sym, ap, refl, ◌∙◌, subst, arith, get_or, set, length-set}
+use Rattle.std.proofs.Common.{◌≡◌, inr, ⊎_elim, ℕ, ◌+◌, ◌%◌, ◌^◌, List, [], ◌∷◌, length, sym, ap, refl, ◌∙◌, subst, arith, get_or, set, length-set}
 use Rattle.std.specs.Prelude.{Option, Some, cond}
 use mathlib.Core.Logic.{dite}
 use mathlib.Core.Option.{some, none, some-injective, some-ne-none}
@@ -7,16 +7,15 @@ use mathlib.Core.Option as maybe
 use native.Mathlib.Decide.{ℕ_discrete}
 use lib.ListN.{get_elem?}
 use lib.Seq.{set-get_or}
-use Rattle.atomic_table.specs.Table.{State, Me, step, keeps, takes, stepped, Allows}
+use Rattle.atomic_table.specs.Table.{State, step, keeps, takes, Allows}
 use Rattle.atomic_table.proofs.Lists.{one_turn, set_again, set_here}
 use Rattle.board.specs.Boards.{BoardView, IsCaller}
-use Rattle.ticket_board.specs.declared.views.Stage.{Stage}
-use Rattle.ticket_board.specs.declared.views.Stage.TheVariants.{Gone, Idle, Waiting, Serving}
+use Rattle.ticket_board.specs.declared.views.Stage.TheVariants.{Waiting, Serving}
 use Rattle.ticket_board.specs.declared.views.View.{View}
 use Rattle.ticket_board.specs.Passes.{Begins, entries_by}
 use Rattle.ticket_board.specs.inner.Views.{has_ticket, IsThere, serving}
-use Rattle.ticket_board.specs.inner.Rules.{HoldsTicket, IsInQueue, IsInTurn, IsOut, IsAtHome, IsSeated, IsKept, tickets_out}
-use Rattle.ticket_board.specs.inner.Plays.{Sat, IsBoardOf, IsServed, watched}
+use Rattle.ticket_board.specs.inner.Rules.{HoldsTicket, IsInQueue, IsOut, IsAtHome, IsSeated, IsKept, tickets_out}
+use Rattle.ticket_board.specs.inner.Plays.{Sat, IsBoardOf, watched}
 use Rattle.ticket_board.proofs.Seats.{Homes, weight, IsServingStage, inside, same_view, tickets_set, tickets_few, each_set, seated_set, queue_stays, stays_in_queue}
 
 -- what is in a slot that is at home
@@ -114,21 +113,21 @@ module _ {P : Type 0} (start : BoardView P) (first : ℕ) where
   pub watches : (slots me : ℕ) (sat : Sat P) → sat.0.stage ≡ Waiting → Allows (IsKept start first) slots me sat 1 (λ n. n) (watched (step slots 1 0 0 none) sat)
   watches slots me sat waits s r sized at small = dite (ℕ_discrete (get_or s.words 1 0) (sat.0.ticket % 2 ^ 64))
       (λ same.
-        let its = served_now slots me sat waits s r at same in
-        let alone = (held s r me sat.0 waits at).alone in
-        ⊎_elim (λ (home : IsAtHome start r.history s.homes). (
-          serving sat.0 home.board.entries,
-          takes 0 (Some home.board),
-          ap (λ (homes : Homes P). get_elem? homes 0) home.home,
-          served_rule s r me sat.0 waits at its home,
-          (
-            λ found. record { board = home.board; is_its = is_its s r me sat.0 home (r.seated me sat.0 at (subst IsThere (sym waits) tt)); me = refl },
-            λ other. absurd (other same),
-          ),
-        )) (λ (out : IsOut s.homes s.views (r.holder r.served)).
-          let there : get_elem? s.views me ≡ some out.view = subst (λ seat. get_elem? s.views seat ≡ some out.view) (ap r.holder its ∙ alone) out.at in
-          let stage : sat.0.stage ≡ Serving = ap (λ (view : View). view.stage) (same_view s.views me sat.0 out.view at there) ∙ out.stage in
-          absurd (subst IsServingStage (sym stage ∙ waits) tt)) r.slot)
+      let its = served_now slots me sat waits s r at same in
+      let alone = (held s r me sat.0 waits at).alone in
+      ⊎_elim (λ (home : IsAtHome start r.history s.homes). (
+        serving sat.0 home.board.entries,
+        takes 0 (Some home.board),
+        ap (λ (homes : Homes P). get_elem? homes 0) home.home,
+        served_rule s r me sat.0 waits at its home,
+        (
+          λ found. record { board = home.board; is_its = is_its s r me sat.0 home (r.seated me sat.0 at (subst IsThere (sym waits) tt)); me = refl },
+          λ other. absurd (other same),
+        ),
+      )) (λ (out : IsOut s.homes s.views (r.holder r.served)).
+      let there : get_elem? s.views me ≡ some out.view = subst (λ seat. get_elem? s.views seat ≡ some out.view) (ap r.holder its ∙ alone) out.at in
+      let stage : sat.0.stage ≡ Serving = ap (λ (view : View). view.stage) (same_view s.views me sat.0 out.view at there) ∙ out.stage in
+      absurd (subst IsServingStage (sym stage ∙ waits) tt)) r.slot)
       (λ other. (
         sat.0,
         keeps,

@@ -1,5 +1,5 @@
 -- What a seat holds of the slot in its turn.
-use Rattle.std.proofs.Common.{◌≡◌, ℕ, ◌%◌, List, [], ◌∷◌, sym, ap, refl, ◌∙◌, subst}
+use Rattle.std.proofs.Common.{◌≡◌, ℕ, List, [], ◌∷◌, sym, ap, ◌∙◌, subst}
 use Rattle.std.specs.Prelude.{Option, Some, None, unwrap_or}
 use Rattle.board.specs.Boards.{BoardView}
 use Rattle.ticket_board.specs.declared.views.View.{View}

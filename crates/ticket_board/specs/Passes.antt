@@ -35,6 +35,14 @@ abbrev pub newcomer : Home → ℕ → List Entry → PassView
 newcomer home number seen =
     record { home = home; number = number; seen = seen; mine = []; turns = 0 }
 
+-- the pass after a turn that ended with this history
+abbrev pub turned : PassView → List Entry → PassView
+turned pass history = record pass {
+  seen = history;
+  mine = entries_by pass.number history;
+  turns = pass.turns + 1;
+}
+
 -- the passes of `callers` new callers, in the order of their numbers, from `first` on
 pub record AreNewcomers (home : Home) (first callers : ℕ) (seen : List Entry) (passes : List PassView) :
     Type 0 where

@@ -1,19 +1,17 @@
 -- The tables of the answers that a caller gets in its turn.
-use Rattle.std.specs.Prelude.{◌≡◌, ◌↔◌, ℕ, List, [], ◌∷◌, ◌++◌, Option, None, Some}
-use Rattle.compact_types.specs.declared.places.Places.{Places}
+use Rattle.std.specs.Prelude.{◌≡◌, ℕ, ◌+◌, ◌^◌, ◌<◌, List, [], ◌∷◌, ◌++◌, MatchOption, Option, None}
 use Rattle.compact_types.specs.declared.plan.Shape.{Shape}
 use Rattle.compact_types.specs.declared.search.Branch.{Branch}
 use Rattle.compact_types.specs.declared.search.Choice.{Choice}
 use Rattle.compact_types.specs.Bests.{Objective}
-use Rattle.compact_types.specs.Drawings.{IsDrawing}
-use Rattle.separation.specs.Branching.{IsBranchPair}
 use Rattle.shape_graphs.specs.declared.measure.Verdict.{Verdict}
-use Rattle.shape_graphs.specs.declared.measure.Verdict.TheVariants.{Cyclic, Above, Least}
+use Rattle.shape_graphs.specs.Measures.{BacksBefore}
 use Rattle.board.specs.declared.entries.Claim.{Claim}
 use Rattle.board.specs.declared.entries.Claim.TheVariants.{Yours, Taken, Stranger}
 use Rattle.board.specs.declared.entries.Entry.{Entry}
 use Rattle.board.specs.declared.entries.Entry.TheVariants as entries
 use Rattle.board.specs.declared.entries.Settled.{Settled}
+use Rattle.board.specs.declared.entries.Settled.TheVariants.{Split, Closed, Improved}
 use Rattle.board.specs.Boards.{BoardView, IsOutcome, board_state}
 use Rattle.board.specs.Facts.{AreFacts, AreSound}
 use Rattle.board.specs.Histories.{state_of, choices_of, IsHeldBy, IsKnown, IsWaiting}
@@ -43,19 +41,11 @@ IsClaimed old branch Taken new =
     × (new.mine ≡ old.mine)
 IsClaimed old branch Yours new = IsGranted old branch new
 
--- no pair is given exactly where the places are a drawing; a pair that is given is the one at which
--- a search splits
-pub record IsPairOf (shape : Shape) (choices : List Choice) (places : Places)
-    (pair : Option (ℕ × ℕ)) : Type 0 where
-  pub none : (pair ≡ None) ↔ IsDrawing shape places
-  pub some : (s t : ℕ) → pair ≡ Some (s, t) → IsBranchPair shape choices places s t
-
--- the pair that comes with a verdict on these choices: a least key alone has one
-abbrev pub IsPairWith : {P : Type 0} →
-    Shape → List Choice → Verdict P → Option (ℕ × ℕ) → Type 0
-IsPairWith shape choices (Cyclic axis cycle) pair = pair ≡ None
-IsPairWith shape choices (Above bound stop proof) pair = pair ≡ None
-IsPairWith shape choices (Least key proof) pair = IsPairOf shape choices key.places pair
+-- the numbers of the four children of a split fit in 64 bits
+abbrev pub ChildrenFit : Settled → Type 0
+ChildrenFit (Split first s t) = first + 3 < 2 ^ 64
+ChildrenFit Closed = Unit {0}
+ChildrenFit Improved = Unit {0}
 
 -- The caller settled the branch: on a board of the shape, whose entries begin with what the pass had
 -- seen, it has this outcome, and the settle is the entry after those of the board.
@@ -68,5 +58,16 @@ pub record IsSettledOn {P : Type 0} (objective : Objective)
   pub later : Begins old.seen board.entries
   pub held : IsHeldBy (board_state board) id old.number
   pub outcome : IsOutcome board verdict pair what
+  pub children_fit : ChildrenFit what
   pub seen : new.seen ≡ board.entries ++ entries.Settled old.number id what ∷ []
   pub mine : new.mine ≡ old.mine ++ entries.Settled old.number id what ∷ []
+
+-- With a claim comes the proof from which a solver of the branch may begin: none exactly if the
+-- branch is not the caller's or is branch 0, and else one of a verdict on its choices without the
+-- last.
+abbrev pub IsStartOf : {P : Type 0} → (List Choice → P → Verdict P → Type 0) → Branch → Claim →
+    Option P → Type 0
+IsStartOf Backs branch Yours start =
+    MatchOption start (branch.id ≡ 0) (λ proof. BacksBefore Backs branch.choices.choices proof)
+IsStartOf Backs branch Taken start = start ≡ None
+IsStartOf Backs branch Stranger start = start ≡ None

@@ -1,11 +1,12 @@
 //! The ticket board.
 
 ghost use Rattle.std.specs.Prelude.{◌≡◌, ◌+◌, IfOk, MatchResult};
+ghost use Rattle.board.specs.Boards.{IsCaller, IsOutcome, after_settle, board_state};
 ghost use Rattle.board.specs.Facts.{AreFacts};
-ghost use Rattle.board.specs.Histories.{choices_of, open_count_of, state_of};
-ghost use Rattle.board.specs.Verdicts.{IsSoundVerdict};
+ghost use Rattle.board.specs.Histories.{IsHeldBy, choices_of, open_count_of, state_of};
+ghost use Rattle.board.specs.Verdicts.{IsBranchPairFor, IsSoundVerdict};
 ghost use Rattle.ticket_board.specs.Passes.{Begins, HasSeenMore, HaveMet, IsHolding, entries_by};
-ghost use Rattle.ticket_board.specs.Turns.{IsClaimed, IsPairWith, IsSettledOn};
+ghost use Rattle.ticket_board.specs.Turns.{ChildrenFit, IsClaimed, IsSettledOn};
 
 use crate::passes::Pass;
 use crate::plays::{Compare, Meet};
@@ -74,7 +75,7 @@ impl<P: Backing> TicketBoard<P> {
         requires holds { IsHolding pass.old id }
         requires verdict { IsSoundVerdict P.objective P.backs pass.old.home.shape
             (choices_of (state_of pass.old.seen) id) verdict }
-        requires pair { IsPairWith pass.old.home.shape
+        requires pair { IsBranchPairFor pass.old.home.shape
             (choices_of (state_of pass.old.seen) id) verdict pair }
         ensures more { HasSeenMore pass.old pass.new }
         ensures turn { pass.new.turns ≡ pass.old.turns + 1 }
@@ -84,9 +85,9 @@ impl<P: Backing> TicketBoard<P> {
     {
         let desk = &self.table.shared;
         let (seat, mut board) = begin_turn(rt, desk, &mut pass.badge);
-        let settled = board.settle(pass.number, id, verdict, pair);
+        let settled = settle_held(&mut board, pass.number, id, verdict, pair);
         pass.badge = end_turn(desk, seat, board);
-        settled.map_err(refused)
+        settled
     }
 
     /// How many branches are open, in a turn: they wait or are held. It takes no memory.
@@ -136,6 +137,35 @@ impl<P: Backing> TicketBoard<P> {
             mut badge,
         } = pass;
         begin_turn(rt, &self.table.shared, &mut badge).1
+    }
+}
+
+/// Settles the branch, which the caller holds, so that memory alone can be refused.
+fn settle_held<P: Backing>(
+    board: &mut Board<P>,
+    who: u32,
+    id: u64,
+    verdict: Verdict<P>,
+    pair: Option<(u32, u32)>,
+) -> Result<Settled, NoMemory>
+    requires who { IsCaller board.old.given who }
+    requires held { IsHeldBy (board_state board.old) id who }
+    requires verdict { IsSoundVerdict P.objective P.backs board.old.shape
+        (choices_of (board_state board.old) id) verdict }
+    requires pair { IsBranchPairFor board.old.shape
+        (choices_of (board_state board.old) id) verdict pair }
+    ensures outcome { IfOk result (IsOutcome board.old verdict pair) }
+    ensures fit { IfOk result ChildrenFit }
+    ensures board { MatchResult result
+        (λ what. board.new ≡ after_settle board.old who id verdict what)
+        (λ refused. board.new ≡ board.old) }
+{
+    match board.settle(who, id, verdict, pair) {
+        Ok(what) => {
+            let _what_is_known = board.outcome(id);
+            Ok(what)
+        }
+        Err(fault) => Err(refused(fault)),
     }
 }
 

@@ -71,6 +71,7 @@ fn deal<P: Backing>(
     requires table { dealer.table_id ≡ desk.now.table_id }
     requires sized { IsSized desk.now.table_id }
     requires first { desk.now.key.first ≡ first }
+    requires numbers { first + callers ≤ 4_294_967_296 }
     requires founded { IsFounded desk.now.key.board.value first callers }
     requires id { dealer.id ≡ 0 }
     requires dealer { IsDealer desk.now.key.board.value first 1 dealer.me }
@@ -87,9 +88,12 @@ fn deal<P: Backing>(
             badge: seat.into_badge(),
         });
     }
-    passes.insert(0, Pass {
-        number: first,
-        badge: dealer.into_badge(),
-    })?;
+    passes.insert(
+        0,
+        Pass {
+            number: first,
+            badge: dealer.into_badge(),
+        },
+    )?;
     Ok(Items::from_vec(passes))
 }

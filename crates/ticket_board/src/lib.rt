@@ -7,6 +7,7 @@
 #![tactic(auto)]
 
 mod boards;
+mod claiming;
 mod dealing;
 mod passes;
 mod plays;
@@ -15,4 +16,5 @@ mod turns;
 mod views;
 
 pub use boards::TicketBoard;
+pub use claiming::claim_with_proof;
 pub use passes::Pass;

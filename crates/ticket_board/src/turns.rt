@@ -46,11 +46,7 @@ pub(crate) fn begin_turn<P: Backing, R: Wait>(
 }
 
 /// Ends the turn: the board goes back, the next ticket is served, and the pass gets its badge.
-pub(crate) fn end_turn<P: Backing>(
-    desk: &Desk<P>,
-    seat: Place<P>,
-    board: Board<P>,
-) -> Badge<View>
+pub(crate) fn end_turn<P: Backing>(desk: &Desk<P>, seat: Place<P>, board: Board<P>) -> Badge<View>
     requires table { seat.table_id ≡ desk.now.table_id }
     requires sized { IsSized desk.now.table_id }
     requires serves { IsServing seat.me None }

@@ -1,6 +1,5 @@
 -- How the first seat deals out the others.
-use Rattle.std.specs.Prelude.{◌≡◌, ℕ, ◌+◌, ◌≤◌, List, []}
-use Rattle.board.specs.declared.entries.Entry.{Entry}
+use Rattle.std.specs.Prelude.{◌≡◌, ℕ, ◌+◌, ◌≤◌, []}
 use Rattle.board.specs.Boards.{BoardView}
 use Rattle.board.specs.Histories.{IsLegal}
 use Rattle.ticket_board.specs.Passes.{entries_by}

@@ -1,10 +1,7 @@
 -- What each step tells its caller.
-use Rattle.std.specs.Prelude.{◌≡◌, ◌⊎◌, ℕ, ◌+◌, ◌%◌, ◌^◌, List, [], ◌∷◌, Option, Some, None}
+use Rattle.std.specs.Prelude.{◌≡◌, ◌⊎◌, ℕ, ◌%◌, ◌^◌, [], ◌∷◌, Option, Some}
 use Rattle.atomic_table.specs.Table.{Me, Step}
-use Rattle.compact_types.specs.declared.plan.Shape.{Shape}
-use Rattle.board.specs.declared.entries.Entry.{Entry}
 use Rattle.board.specs.Boards.{BoardView, IsCaller}
-use Rattle.ticket_board.specs.declared.views.Stage.TheVariants.{Idle, Waiting, Serving}
 use Rattle.ticket_board.specs.declared.views.View.{View}
 use Rattle.ticket_board.specs.Passes.{Begins, entries_by}
 use Rattle.ticket_board.specs.inner.Views.{with_ticket, serving, after_turn}

@@ -1,7 +1,15 @@
 -- What a seat has in its turn.
-use Rattle.std.specs.Prelude.{◌≡◌, ◌≢◌, ◌++◌, ℕ, List, [], ◌∷◌, Option, Some, None}
+use Rattle.std.specs.Prelude.{◌≡◌, ◌≢◌, ◌++◌, ℕ, List, [], ◌∷◌, MatchOption, Option, Some, None}
+use Rattle.compact_types.specs.declared.plan.Shape.{Shape}
+use Rattle.compact_types.specs.declared.search.Branch.{Branch}
+use Rattle.compact_types.specs.declared.search.Choice.{Choice}
+use Rattle.shape_graphs.specs.declared.measure.Verdict.{Verdict}
+use Rattle.shape_graphs.specs.Measures.{BacksBefore}
+use Rattle.board.specs.declared.entries.Claim.{Claim}
+use Rattle.board.specs.declared.entries.Claim.TheVariants.{Yours, Taken, Stranger}
 use Rattle.board.specs.declared.entries.Entry.{Entry}
-use Rattle.board.specs.Boards.{BoardView}
+use Rattle.board.specs.Boards.{BoardView, board_state}
+use Rattle.board.specs.Histories.{HasNoParent, choices_of}
 use Rattle.ticket_board.specs.declared.views.Stage.TheVariants.{Serving}
 use Rattle.ticket_board.specs.declared.views.View.{View}
 use Rattle.ticket_board.specs.Passes.{entries_by}
@@ -33,3 +41,12 @@ pub record CanPassOn {P : Type 0} (me : Sat P) : Type 0 where
   pub board : BoardView P
   pub serves : IsServing me (Some board)
   pub adds : Adds me.0 board
+
+-- the proof that comes with a claim, from a board after it
+abbrev pub IsProofBefore : {P : Type 0} → (Shape → List Choice → P → Verdict P → Type 0) →
+    BoardView P → Branch → Claim → Option P → Type 0
+IsProofBefore Backs board branch Yours found =
+    MatchOption found (HasNoParent (board_state board) branch.id)
+    (λ proof. BacksBefore (Backs board.shape) (choices_of (board_state board) branch.id) proof)
+IsProofBefore Backs board branch Taken found = found ≡ None
+IsProofBefore Backs board branch Stranger found = found ≡ None

@@ -1,5 +1,5 @@
 -- What the rule of the table knows of a seat.
-use Rattle.std.specs.Prelude.{◌≡◌, ℕ, ◌+◌, ◌%◌, ◌^◌, Bool, true, false, List, [], ◌∷◌, refl}
+use Rattle.std.specs.Prelude.{◌≡◌, ℕ, ◌+◌, Bool, true, false, List, [], ◌∷◌, refl}
 use native.Mathlib.Nat.{le_refl}
 use Rattle.atomic_table.specs.Seated.{TableId}
 use Rattle.compact_types.specs.declared.plan.Shape.{Shape}

@@ -1,4 +1,4 @@
-use Rattle.std.proofs.Common.{ap, sym, subst, ◌∙◌}
+use Rattle.std.proofs.Common.{ap, subst}
 use Rattle.ticket_board.specs.inner.Plays.{IsBoardOf}
 use Rattle.ticket_board.specs.inner.Turns.{IsTaken}
 use Rattle.ticket_board.proofs.Slots.{is_serving, its_board, taken}

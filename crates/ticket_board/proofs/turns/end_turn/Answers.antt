@@ -1,4 +1,4 @@
-use Rattle.std.proofs.Common.{ap, sym, ◌∙◌, subst, ◌≡◌}
+use Rattle.std.proofs.Common.{ap, sym, ◌∙◌, subst}
 use Rattle.ticket_board.specs.inner.Turns.{Adds}
 use Rattle.ticket_board.proofs.turns.end_turn.Goals as goal
 
@@ -10,3 +10,6 @@ pass_on-requires-clause-full g c κs within =
       serves = record { stage = ap (λ view. view.stage) view ∙ c.requires.serves.stage; slot = ap (λ me. me.1) now };
       adds = subst (λ view. Adds view c.args.board) (sym view) c.requires.adds;
     }
+
+pub into_badge-requires : goal.into_badge-requires
+into_badge-requires g c = ap (λ me. me.1) (c.pass_on.ensures.me c.args.board (ap (λ me. me.1) c.move_in.ensures.me))

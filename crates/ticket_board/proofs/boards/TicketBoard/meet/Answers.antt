@@ -1,4 +1,4 @@
-use Rattle.std.proofs.Common.{arith, ◌∙◌, ap, sym}
+use Rattle.std.proofs.Common.{arith, ◌∙◌, ap}
 use Rattle.ticket_board.specs.inner.Views.{view_in}
 use Rattle.ticket_board.proofs.Belonging.{same_table}
 use Rattle.ticket_board.proofs.MetSeats.{meets, compares}
