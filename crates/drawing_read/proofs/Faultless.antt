@@ -44,7 +44,7 @@ none_there [] none = refl
 none_there (None ∷ faults) none = none_there faults none.1
 none_there (Some fault ∷ faults) none = absurd (cc)
 
-none_mapped : {X Y : Type 0} (f : X → Y) (o : Option X) → option_map f o ≡ None → o ≡ None
+pub none_mapped : {X Y : Type 0} (f : X → Y) (o : Option X) → option_map f o ≡ None → o ≡ None
 none_mapped f None none = refl
 none_mapped f (Some x) none = absurd (cc)
 

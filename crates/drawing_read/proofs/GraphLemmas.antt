@@ -1,8 +1,7 @@
 -- The graphs at the top, by the place of the first.
-use Rattle.std.proofs.Common.{◌≡◌, ℕ, zero, suc, ◌<◌, ◌≤◌, Bool, true, false, cond, ltb, List, [], ◌∷◌, length, drop, get_or, Option, None, Some, is_some, refl, sym, ap, ◌∙◌, arith, drop-cons}
+use Rattle.std.proofs.Common.{◌≡◌, ℕ, zero, suc, ◌<◌, ◌≤◌, Bool, true, false, List, [], ◌∷◌, length, drop, get_or, Option, None, Some, is_some, refl, sym, ap, ◌∙◌, arith, drop-cons}
 use Rattle.std.specs.Prelude.{codes, MatchOption}
 use Rattle.std.specs.List.{filter_map, cons_option, position, position_or_len}
-use Rattle.std.proofs.lemmas.Bool.Decides.{nat_tests}
 use Rattle.std.proofs.lemmas.List.Sums.{fails_before_first}
 use Rattle.std.proofs.lemmas.List.Quantifiers.{position-Some}
 use Rattle.gml_text.specs.declared.tree.Pair.{Pair}
@@ -12,6 +11,7 @@ use Rattle.drawing_read.specs.inner.Passes.{IsFirstGraph, IsOnlyGraph}
 use Rattle.drawing_read.specs.declared.fault.DrawFault.TheVariants.{TwoGraphs}
 use Rattle.drawing_read.specs.declared.lookups.Found.{Found}
 use Rattle.drawing_read.specs.Faults.{fault_of}
+use Rattle.drawing_read.proofs.LookupLemmas.{past_end}
 
 module _ {X Y : Type 0} (h : X → Option Y) where
   abbrev is_kept : X → Bool
@@ -33,13 +33,6 @@ module _ {X Y : Type 0} (h : X → Option Y) where
   drop_all [] (suc i) within = refl
   drop_all (x ∷ xs) zero within = absurd (omega arith)
   drop_all (x ∷ xs) (suc i) within = drop_all xs i (omega arith)
-
-  past_end : (k l : ℕ) → cond (ltb k l) (Some k) None ≡ None → l ≤ k
-  past_end k l none = by (ltb k l) refl none
-    where
-      by : (b : Bool) → ltb k l ≡ b → cond b (Some k) None ≡ None → l ≤ k
-      by true test none = absurd (cc)
-      by false test none = grind (arith, nat_tests)
 
   -- nothing is kept, where no item passes
   pub none_kept : (xs : List X) → position is_kept xs ≡ None → filter_map h xs ≡ []

@@ -1,5 +1,5 @@
 -- Which node has an id, as the map of ids grows.
-use Rattle.std.proofs.Common.{◌≡◌, ℕ, zero, suc, ◌+◌, ◌<◌, ◌≤◌, ℤ, pos, Bool, true, false, cond, eqb, ltb, List, [], ◌∷◌, ◌++◌, length, take, get_or, Option, None, Some, is_some, refl, sym, ap, ◌∙◌, subst, arith, add-zero, zero-add, add-one, not}
+use Rattle.std.proofs.Common.{◌≡◌, ℕ, ◌+◌, ◌<◌, ◌≤◌, ℤ, pos, Bool, true, false, cond, eqb, ltb, List, [], ◌∷◌, ◌++◌, length, take, get_or, Option, None, Some, is_some, refl, sym, ap, ◌∙◌, subst, arith, zero-add, add-one, not}
 use Rattle.std.specs.List.{find, position, position_or_len, range_with_len}
 use Rattle.std.specs.Option.{option_or}
 use Rattle.std.specs.Ordering.{int_eq}
@@ -8,6 +8,7 @@ use Rattle.std.proofs.lemmas.Bool.Decides.{Decides-int_eq, nat_tests}
 use Rattle.std.proofs.lemmas.List.{take_more, length_push, length-take-le, length-map, get_or-map}
 use Rattle.std.proofs.lemmas.List.Sums.{prefix_len-le-length}
 use Rattle.std.proofs.lemmas.List.Folds.{position_or_len_push, find-append}
+use Rattle.compact_types.proofs.Laws.{range_push}
 use Rattle.drawing_read.specs.declared.written.Node.{Node}
 use Rattle.drawing_read.specs.Ids.{number_of_id, id_of, ids_of, repeats_id}
 
@@ -59,13 +60,6 @@ ids_more : (nodes : List Node) (n : ℕ) (d : Node) → n < length nodes → tak
 ids_more nodes n d within =
     take_more (ids_of nodes) n (pos 0) (subst (λ l. n < l) (sym (length-map nodes id_of)) within)
     ∙ ap (λ (id : ℤ). take n (ids_of nodes) ++ id ∷ []) (id_at nodes n d (pos 0) within)
-
--- one more number
-range_push : (a n : ℕ) → range_with_len a (suc n) ≡ range_with_len a n ++ (a + n) ∷ []
-range_push a zero = ap (λ (k : ℕ). k ∷ []) (sym (add-zero a))
-range_push a (suc n) =
-    let e : a + 1 + n ≡ a + suc n = omega arith in
-    ap (λ (ks : List ℕ). a ∷ ks) (range_push (a + 1) n ∙ ap (λ (k : ℕ). range_with_len (a + 1) n ++ k ∷ []) e)
 
 -- an id that an earlier node has
 look_same : (ids : List ℤ) (x : ℤ) (look : ℤ → Option ℕ) → ((q : ℤ) → look q ≡ number_of_id ids q) → is_some (look x) ≡ true →

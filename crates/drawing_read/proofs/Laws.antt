@@ -13,5 +13,10 @@ pub use Rattle.drawing_read.proofs.EndLemmas.{end_below, pieces_join_vertices}
 -- the spots of a graph are its coordinates, in document order
 pub use Rattle.drawing_read.proofs.CoordinateCases.{spot_is_coordinate, coordinate_is_spot}
 pub use Rattle.drawing_read.proofs.SpotOrder.{graph_in_order}
+-- and each is of a vertex
+pub use Rattle.drawing_read.proofs.SpotVertices.{spot_vertex_below}
+-- searches in lists that are mapped
+pub use Rattle.drawing_read.proofs.AlikeLists.{position-map, prefix_len-map}
+pub use Rattle.drawing_read.proofs.Faultless.{none_mapped}
 -- a tree as it is read from a text can be read as a drawing
 pub use Rattle.drawing_read.proofs.LegibleWords.{readable_legible}

@@ -1,6 +1,7 @@
 -- What a legible list says of its pairs, and a legible pair of its value.
 use Rattle.std.proofs.Common.{◌≡◌, ℕ, zero, suc, ◌<◌, ◌≤◌, true, List, [], ◌∷◌, length, get_or, sym, ap, ◌∙◌, subst, ◌⊎◌, ⊎_elim, arith}
 use Rattle.std.proofs.lemmas.List.Sums.{get_or-le-sum_by, sum_by-cons}
+use Rattle.std.proofs.lemmas.Bool.{and_parts}
 use Rattle.gml_text.specs.declared.tree.Tree.{Tree, out-Tree}
 use Rattle.gml_text.specs.declared.tree.Pair.{Pair}
 use Rattle.gml_text.specs.declared.tree.Value.TheVariants.{Whole, Real, Inner}
@@ -11,7 +12,7 @@ use Rattle.gml_text.specs.PairCounts.{count_in_value, count_in_pair, count_in_pa
 use Rattle.gml_text.proofs.Laws.{tree_count, pair_with_value, value_count, is_numeral-whole}
 use Rattle.drawing_read.specs.Legible.{value_has_legible_words, pair_has_legible_words, have_legible_words, IsLegible}
 use Rattle.drawing_read.specs.inner.Legible.{most_pairs, IsLegiblePair, AreLegible}
-use Rattle.drawing_read.proofs.LegibleWords.{tree_legible, pair_legible, value_legible, and_both}
+use Rattle.drawing_read.proofs.LegibleWords.{tree_legible, pair_legible, value_legible}
 
 -- the list of a legible tree is legible
 pub legible_tree : (tree : Tree) → IsLegible tree → AreLegible (out-Tree tree).pairs
@@ -21,7 +22,7 @@ legible_tree tree legible = record {
 }
 
 legible_value : (pair : Pair) → IsLegiblePair pair → value_has_legible_words pair.value ≡ true
-legible_value pair legible = (and_both (is_key pair.key) (value_has_legible_words pair.value) (sym (pair_legible pair) ∙ legible.words)).1
+legible_value pair legible = (and_parts (is_key pair.key) (value_has_legible_words pair.value) (sym (pair_legible pair) ∙ legible.words)).1
 
 -- the list of a legible pair is legible
 pub legible_list : (pair : Pair) (tree : Tree) → pair.value ≡ Inner tree → IsLegiblePair pair → AreLegible (out-Tree tree).pairs
@@ -54,8 +55,8 @@ legible_at pairs i pair legible within is = record {
   where
     words : (pairs : List Pair) (i : ℕ) (pair : Pair) → i < length pairs → pair ≡ get_or pairs i pair → have_legible_words pairs ≡ true → pair_has_legible_words pair ≡ true
     words [] i pair within is all = absurd (omega arith)
-    words (x ∷ xs) zero pair within is all = ap pair_has_legible_words is ∙ (and_both (pair_has_legible_words x) (have_legible_words xs) all).0
-    words (x ∷ xs) (suc i) pair within is all = words xs i pair (omega arith) is (and_both (pair_has_legible_words x) (have_legible_words xs) all).1
+    words (x ∷ xs) zero pair within is all = ap pair_has_legible_words is ∙ (and_parts (pair_has_legible_words x) (have_legible_words xs) all).0
+    words (x ∷ xs) (suc i) pair within is all = words xs i pair (omega arith) is (and_parts (pair_has_legible_words x) (have_legible_words xs) all).1
 
 -- a legible list has few pairs
 pub few_pairs : (pairs : List Pair) → AreLegible pairs → length pairs ≤ most_pairs

@@ -1,7 +1,6 @@
 -- The words that the reading asks for, a level at a time; right words are legible.
-use Rattle.std.proofs.Common.{◌≡◌, Bool, true, false, ◌&&◌, List, [], ◌∷◌, map, refl, sym, ap, ◌∙◌}
-use Rattle.std.specs.List.{list_all}
-use Rattle.std.proofs.lemmas.Bool.{false≢true}
+use Rattle.std.proofs.Common.{◌≡◌, Bool, true, ◌&&◌, List, [], ◌∷◌, refl, sym, ◌∙◌}
+use Rattle.std.proofs.lemmas.Bool.{and_from, and_parts}
 use Rattle.gml_text.specs.declared.tree.Tree.{Tree, out-Tree, fold_out-Tree}
 use Rattle.gml_text.specs.declared.tree.Pair.{Pair, fold_out-Pair}
 use Rattle.gml_text.specs.declared.tree.Value.{Value, out-Value, fold_out-Value}
@@ -11,12 +10,8 @@ use Rattle.gml_text.specs.Grammar.{IsReadable}
 use Rattle.gml_text.specs.Numerals.{is_whole_numeral}
 use Rattle.gml_text.specs.NumeralKinds.{is_numeral}
 use Rattle.gml_text.specs.RightWords.{pair_step, list_step, value_has_right_words, pair_has_right_words, have_right_words, has_right_words}
-use Rattle.gml_text.proofs.Laws.{tree_words, pair_words, value_words, EachValue, each_in, is_numeral-real}
+use Rattle.gml_text.proofs.Laws.{list_all-map, tree_words, pair_words, value_words, EachValue, each_in, is_numeral-real}
 use Rattle.drawing_read.specs.Legible.{value_step, value_has_legible_words, pair_has_legible_words, have_legible_words, has_legible_words, IsLegible}
-
-list_all-map : (f : Pair → Bool) (pairs : List Pair) → list_all (λ pair. pair) (map f pairs) ≡ list_all f pairs
-list_all-map f [] = refl
-list_all-map f (pair ∷ pairs) = ap (λ rest. f pair && rest) (list_all-map f pairs)
 
 -- the words of a tree are those of its pairs
 pub tree_legible : (tree : Tree) → has_legible_words tree ≡ have_legible_words (out-Tree tree).pairs
@@ -42,14 +37,6 @@ value_legible (Real word) = fold_out-Value Bool Bool Bool value_step pair_step l
 value_legible (Text inside) = fold_out-Value Bool Bool Bool value_step pair_step list_step (Text inside)
 value_legible (Inner tree) = fold_out-Value Bool Bool Bool value_step pair_step list_step (Inner tree)
 
-pub and_both : (a b : Bool) → (a && b) ≡ true → (a ≡ true) × (b ≡ true)
-and_both true b both = (refl, both)
-and_both false b both = absurd (false≢true both)
-
-and_from : (a b : Bool) → a ≡ true → b ≡ true → (a && b) ≡ true
-and_from true b first second = second
-and_from false b first second = absurd (false≢true first)
-
 -- the words of the value can be read where they are right
 abbrev Reads : Value → Type 0
 Reads value = value_has_right_words value ≡ true → value_has_legible_words value ≡ true
@@ -57,8 +44,8 @@ Reads value = value_has_right_words value ≡ true → value_has_legible_words v
 pairs_read : (pairs : List Pair) → EachValue Reads pairs → have_right_words pairs ≡ true → have_legible_words pairs ≡ true
 pairs_read [] each right = refl
 pairs_read (pair ∷ pairs) each right =
-    let both = and_both (pair_has_right_words pair) (have_right_words pairs) right in
-    let parts = and_both (is_key pair.key) (value_has_right_words pair.value) (sym (pair_words pair) ∙ both.0) in
+    let both = and_parts (pair_has_right_words pair) (have_right_words pairs) right in
+    let parts = and_parts (is_key pair.key) (value_has_right_words pair.value) (sym (pair_words pair) ∙ both.0) in
     and_from (pair_has_legible_words pair) (have_legible_words pairs)
     (pair_legible pair ∙ and_from (is_key pair.key) (value_has_legible_words pair.value) parts.0 (each.0 parts.1))
     (pairs_read pairs each.1 both.1)

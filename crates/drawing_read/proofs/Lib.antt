@@ -21,4 +21,5 @@ pub mod CoordinateCases
 pub mod PathOrder
 pub mod InsideOrder
 pub mod SpotOrder
+pub mod SpotVertices
 pub mod Laws

@@ -8,16 +8,17 @@ use Rattle.std.proofs.lemmas.List.Folds.{find_at}
 use Rattle.gml_text.specs.declared.tree.Pair.{Pair}
 use Rattle.drawing_read.specs.Lookups.{has_key, list_in, first_list, place_under, IsListAt}
 
--- where no item passes, none is found
-none_found : {X : Type 0} (p : X → Bool) (xs : List X) → position p xs ≡ None → find p xs ≡ None
-none_found p xs none = find_at p xs ∙ slice_get_past xs (position_or_len p xs) (past (position_or_len p xs) (length xs) none)
+-- a place that is not told is past the end
+pub past_end : (k l : ℕ) → cond (ltb k l) (Some k) None ≡ None → l ≤ k
+past_end k l none = by (ltb k l) refl none
   where
-    past : (k l : ℕ) → cond (ltb k l) (Some k) None ≡ None → l ≤ k
-    past k l none = by (ltb k l) refl none
-      where
-        by : (b : Bool) → ltb k l ≡ b → cond b (Some k) None ≡ None → l ≤ k
-        by true test none = absurd (cc)
-        by false test none = grind (arith, nat_tests)
+    by : (b : Bool) → ltb k l ≡ b → cond b (Some k) None ≡ None → l ≤ k
+    by true test none = absurd (cc)
+    by false test none = grind (arith, nat_tests)
+
+-- if no item passes, none is found
+none_found : {X : Type 0} (p : X → Bool) (xs : List X) → position p xs ≡ None → find p xs ≡ None
+none_found p xs none = find_at p xs ∙ slice_get_past xs (position_or_len p xs) (past_end (position_or_len p xs) (length xs) none)
 
 -- the first item that passes is found
 first_found : {X : Type 0} (p : X → Bool) (xs : List X) (i : ℕ) (x : X) → position p xs ≡ Some i → x ≡ get_or xs i x → find p xs ≡ Some x

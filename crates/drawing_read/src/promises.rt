@@ -1,6 +1,6 @@
 //! What the layers above may rely on, whether `read_drawing` was asked or not.
 
-ghost use Rattle.std.specs.Prelude.{◌≡◌, ◌↔◌, List, [], ◌∷◌, Contains};
+ghost use Rattle.std.specs.Prelude.{◌≡◌, ◌↔◌, ◌<◌, List, [], ◌∷◌, Contains};
 ghost use Rattle.compact_types.specs.Refusals.{HasOneAnswer};
 ghost use Rattle.gml_text.specs.Alike.{IsAlike};
 ghost use Rattle.gml_text.specs.Grammar.{IsReadable};
@@ -38,7 +38,7 @@ pub fn alike_trees_have_one_reading()
 {}
 
 /// A law: the spots of a reading are the coordinates of the nodes and of the points of its graph,
-/// and no others, in document order.
+/// and no others, in document order, each of a vertex.
 pub fn spots_are_the_coordinates()
     ensures all { (tree : Tree) (reading : Reading) (graph : List Pair) (spot : Spot) →
         IsReading tree reading → graphs_of tree ≡ graph ∷ [] →
@@ -46,4 +46,7 @@ pub fn spots_are_the_coordinates()
         ↔ IsCoordinate (graph_place tree ∷ []) (spans_in (graph_of graph)) graph spot }
     ensures in_order { (tree : Tree) (reading : Reading) →
         IsReading tree reading → AreInDocumentOrder reading.spots }
+    ensures of_vertices { (tree : Tree) (reading : Reading) (spot : Spot) →
+        IsReading tree reading → Contains reading.spots spot →
+        spot.vertex < reading.plan.vertices }
 {}

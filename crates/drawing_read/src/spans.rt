@@ -149,13 +149,10 @@ fn push_pieces(pieces: &mut Items<Piece>, span: Span) -> Result<(), NoMemory>
 {
     let mut from = span.source;
     for bend in span.first..span.first + span.bends {
-        pieces.push(Piece { from, to: bend })?;
+        pieces.push(Piece::new(from, bend))?;
         from = bend;
     }
-    pieces.push(Piece {
-        from,
-        to: span.target,
-    })
+    pieces.push(Piece::new(from, span.target))
 }
 
 /// The span of an edge; one of zeros where there is no edge with this number.

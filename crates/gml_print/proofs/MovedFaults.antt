@@ -1,11 +1,9 @@
 -- A graph without a fault has none after its vertices were moved.
-use Rattle.std.proofs.Common.{◌≡◌, ℕ, suc, ◌+◌, ◌<◌, ℤ, pos, Bool, List, [], ◌∷◌, ◌++◌, length, map, Option, None, Some, refl, sym, ap, ◌∙◌, ◌||◌}
-use Rattle.std.specs.Prelude.{unwrap_or, is_none}
+use Rattle.std.proofs.Common.{◌≡◌, ℕ, suc, ◌+◌, ℤ, Bool, List, [], ◌∷◌, ◌++◌, length, map, Option, None, Some, refl, sym, ap, ◌∙◌, ◌||◌}
+use Rattle.std.specs.Prelude.{is_none}
 use Rattle.std.specs.List.{position, filter_map, flat_map}
 use Rattle.std.specs.Option.{option_map}
-use Rattle.std.specs.Ordering.{int_eq}
 use Rattle.std.proofs.lemmas.List.Elements.{filter_map-append}
-use Rattle.std.proofs.lemmas.List.Quantifiers.{position-Some}
 use Rattle.compact_types.specs.declared.places.Point.{Point}
 use Rattle.drawing_read.specs.declared.numerals.Number.{Number}
 use Rattle.drawing_read.specs.declared.numerals.Numbers.{Numbers}
@@ -14,15 +12,12 @@ use Rattle.drawing_read.specs.declared.written.Node.{Node}
 use Rattle.drawing_read.specs.declared.written.Edge.{Edge}
 use Rattle.drawing_read.specs.declared.fault.DrawFault.TheVariants.{BadPoint}
 use Rattle.drawing_read.specs.declared.spans.Span.{Span}
-use Rattle.drawing_read.specs.Ids.{ids_of, number_of_id, node_with, fitting}
+use Rattle.drawing_read.specs.Ids.{ids_of, node_with}
 use Rattle.drawing_read.specs.Spans.{point_vertex}
 use Rattle.drawing_read.specs.Faults.{is_no_numeral, lacks_end, has_unknown_end, bad_point_from, both_numbers, refused_in}
-use Rattle.gml_print.proofs.ListFacts.{position-map, position_none_tail, position_none_cons, neither, both_none}
+use Rattle.drawing_read.proofs.Laws.{none_mapped, position-map}
+use Rattle.gml_print.proofs.ListFacts.{position_none_tail, position_none_cons, neither, both_none}
 use Rattle.gml_print.proofs.MovedGraphs.{HavePlaces, HavePoints, EdgesHavePoints, moved_numbers, moved_node, moved_nodes, moved_points, moved_edges}
-
-none_mapped : {X Y : Type 0} (f : X → Y) (o : Option X) → option_map f o ≡ None → o ≡ None
-none_mapped f None is = refl
-none_mapped f (Some x) is = cc
 
 pub have_places : (nodes : List Node) → position (λ node. is_none node.place) nodes ≡ None → HavePlaces nodes
 have_places [] is = tt
@@ -45,18 +40,6 @@ edges_have_points e (edge ∷ edges) is =
 mapped_is_there : {X Y : Type 0} (f : X → Y) (o : Option X) → is_none (option_map f o) ≡ is_none o
 mapped_is_there f None = refl
 mapped_is_there f (Some x) = refl
-
-found_within : (o : Option ℕ) (n : ℕ) → ((i : ℕ) → o ≡ Some i → i < n) → 0 < n → unwrap_or o 0 < n
-found_within None n within some = some
-found_within (Some i) n within some = within i refl
-
--- each end stands for one of the nodes, where there are any
-pub known_end : (ids : List ℤ) (end : WholeNumber) → 0 < length ids → unwrap_or (node_with (number_of_id ids) end) 0 < length ids
-known_end ids end some = by_number (fitting end)
-  where
-    by_number : (o : Option ℤ) → unwrap_or (elim o [ None ↦ None | Some id ↦ number_of_id ids id ]) 0 < length ids
-    by_number None = some
-    by_number (Some id) = found_within (number_of_id ids id) (length ids) (λ i is. (position-Some (int_eq id) ids i (pos 0) is).0) some
 
 module _ (where_is : ℕ → Point) where
   pub ids_moved : (n : ℕ) (nodes : List Node) → ids_of (moved_nodes where_is n nodes) ≡ ids_of nodes

@@ -1,5 +1,5 @@
 -- Graphs whose vertices stand at other places: their plan and their edges by vertices stay, where no piece has no length.
-use Rattle.std.proofs.Common.{◌≡◌, ℕ, zero, suc, ◌+◌, ◌-◌, ◌<◌, ◌≤◌, arith, ℤ, Bool, true, false, cond, List, [], ◌∷◌, ◌++◌, length, map, take, drop, Option, None, Some, Ok, refl, sym, ap, ◌∙◌, nat_lt, append-nil, add-zero, zero-add, length-append, length-take, add-one}
+use Rattle.std.proofs.Common.{◌≡◌, ℕ, zero, suc, ◌+◌, ◌-◌, ◌<◌, ◌≤◌, arith, Bool, true, false, cond, List, [], ◌∷◌, ◌++◌, length, map, take, drop, Option, None, Some, Ok, refl, sym, ap, ◌∙◌, nat_lt, append-nil, add-zero, zero-add, length-append, length-take, add-one}
 use Rattle.std.specs.Prelude.{is_none, slice_get}
 use Rattle.std.specs.List.{range_with_len}
 use Rattle.std.specs.Option.{option_map}
@@ -17,9 +17,9 @@ use Rattle.drawing_read.specs.declared.written.Edge.{Edge}
 use Rattle.drawing_read.specs.declared.routes.Route.{Route}
 use Rattle.drawing_read.specs.declared.spans.Span.{Span}
 use Rattle.drawing_read.specs.Routes.{point_of, node_points}
+use Rattle.compact_types.proofs.Laws.{range_push, same_point as same_coordinates}
 use Rattle.drawing_read.specs.Spans.{same_point, begins_at, ends_at, after_first_at, before_last_at, bends_of, chain}
 use Rattle.drawing_read.specs.Spans.{point_vertex}
-use Rattle.gml_print.proofs.ListFacts.{range_append}
 
 -- each of the nodes has a place
 abbrev pub HavePlaces : List Node → Type 0
@@ -93,13 +93,6 @@ all_vertices span true t (q ∷ points) at long =
     let rest = rest_vertices span 1 0 span.bends t points (omega arith) (omega arith) (omega arith) in
     rw (first, rest, add-zero span.first) refl
 
-point_at : ℤ → ℤ → Point
-point_at x y = record { x = x; y = y }
-
-same_points : (p q : Point) → p.x ≡ q.x → p.y ≡ q.y → p ≡ q
-unfolding point_at
-same_points p q x y = ap (λ (a : ℤ). point_at a p.y) x ∙ ap (λ (b : ℤ). point_at q.x b) y
-
 same_point_self : (p : Point) → same_point p p ≡ true
 same_point_self p = rw ((Decides-int_eq p.x p.x).1 refl, (Decides-int_eq p.y p.y).1 refl) refl
 
@@ -110,7 +103,7 @@ same_point_false p q apart = by_test (same_point p q) refl
     by_test false is = is
     by_test true is =
         let parts = and_parts (int_eq p.x q.x) (int_eq p.y q.y) is in
-        absurd (apart (same_points p q ((Decides-int_eq p.x q.x).0 parts.0) ((Decides-int_eq p.y q.y).0 parts.1)))
+        absurd (apart (same_coordinates p q ((Decides-int_eq p.x q.x).0 parts.0) ((Decides-int_eq p.y q.y).0 parts.1)))
 
 slice_get_last : {A : Type 0} (xs : List A) (y : A) → slice_get (xs ++ y ∷ []) (length xs) ≡ Some y
 slice_get_last [] y = refl
@@ -131,9 +124,6 @@ kept here points is = rw is refl
 
 ends_elsewhere : (here : Point) (points : List Point) (last : Point) → same_point last here ≡ false → ends_at here (points ++ last ∷ []) ≡ false
 ends_elsewhere here points last is = rw (length_push_pred points last, slice_get_last points last, is) refl
-
-range_push : (a n : ℕ) → range_with_len a (suc n) ≡ range_with_len a n ++ (a + n) ∷ []
-range_push a n = let e : suc n ≡ n + 1 = omega arith in ap (range_with_len a) e ∙ range_append a n 1
 
 module _ (where_is : ℕ → Point) where
   -- no piece has no length

@@ -16,10 +16,10 @@ use Rattle.drawing_read.specs.Spans.{bends_of, spans_from, points_by, spans_by, 
 use Rattle.drawing_read.specs.Spans.{no_span}
 use Rattle.drawing_read.specs.Ids.{first_repeated}
 use Rattle.drawing_read.specs.Faults.{is_absent, is_unfit, graph_fault, numbers_of, first_refused, refused_in, has_unknown_end}
-use Rattle.drawing_read.proofs.Laws.{HasNoFault, has_no_fault, is_faultless}
+use Rattle.drawing_read.proofs.Laws.{HasNoFault, end_below, has_no_fault, is_faultless}
 use Rattle.gml_print.proofs.ListFacts.{range_append, length_range}
 use Rattle.gml_print.proofs.MovedGraphs.{HavePlaces, EdgesHavePoints, Apart, moved_nodes, moved_edges, moved_node_points}
-use Rattle.gml_print.proofs.MovedFaults.{have_places, edges_have_points, known_end, ids_moved, ids_position, length_moved, places_moved, numbers_fit, lacking_moved, unknown_moved, no_bad_point}
+use Rattle.gml_print.proofs.MovedFaults.{have_places, edges_have_points, ids_moved, ids_position, length_moved, places_moved, numbers_fit, lacking_moved, unknown_moved, no_bad_point}
 use Rattle.gml_print.proofs.MovedEdges.{KeepTheirVertices, edges_moved}
 
 no_numbers : (numbers : List Number) → filter_map refused_in numbers ≡ [] → first_refused numbers ≡ None
@@ -55,7 +55,7 @@ module _ (where_is : ℕ → Point) (graph : Graph) (faultless : graph_fault gra
   unfolding look
   known end =
       let long : length (ids_of graph.nodes) ≡ length graph.nodes = length-map graph.nodes _ in
-      rw (← long) (known_end (ids_of graph.nodes) end (rw long no_fault.some_node))
+      rw (← long) (end_below (ids_of graph.nodes) end (rw long no_fault.some_node))
 
   kept : KeepTheirVertices where_is look (node_points graph.nodes) (node_points (moved_nodes where_is 0 graph.nodes)) (length graph.nodes) new_place known
       graph.edges (moved_graph where_is graph).edges (length (node_points graph.nodes))

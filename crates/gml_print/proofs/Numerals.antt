@@ -8,8 +8,9 @@ use Rattle.std.proofs.lemmas.Int.{ints}
 use Rattle.std.proofs.lemmas.Fmt.{decimal_by_steps}
 use Rattle.std.proofs.lemmas.List.Folds.{list_all-append}
 use Rattle.std.proofs.lemmas.Bool.Decides.{nat_tests}
+use Rattle.gml_text.proofs.Laws.{all-are_digits}
 use Rattle.gml_text.specs.Bytes.{is_digit}
-use Rattle.gml_text.specs.Numerals.{is_sign, are_digits, is_whole_numeral, digits_value_from, digits_value, value_of_whole}
+use Rattle.gml_text.specs.Numerals.{is_sign, is_whole_numeral, digits_value_from, digits_value, value_of_whole}
 use Rattle.gml_print.specs.Numbers.{number_text}
 
 -- the list is the digits of a number
@@ -51,10 +52,6 @@ record IsNoSign (b : ℕ) : Type 0 where
 no_sign : (b : ℕ) → is_digit b ≡ true → IsNoSign b
 no_sign b h = record { sign = grind (arith, nat_tests); plus = grind (arith, nat_tests); minus = grind (arith, nat_tests) }
 
-are_digits_from : (digits : List ℕ) → list_all is_digit digits ≡ true → 0 < length digits → are_digits digits ≡ true
-are_digits_from [] all some = absurd (omega arith)
-are_digits_from (b ∷ digits) all some = all
-
 -- digits without a sign
 whole_from_digits : (digits : List ℕ) → list_all is_digit digits ≡ true → 0 < length digits →
     (is_whole_numeral digits ≡ true) × (value_of_whole digits ≡ pos (digits_value digits))
@@ -65,7 +62,7 @@ whole_from_digits (b ∷ digits) all some =
 
 pub number_text_is_whole : (number : ℤ) → FitsSigned w64 number → is_whole_numeral (number_text number) ≡ true
 number_text_is_whole (pos n) fits = let of = decimal_digits n (omega (arith, fits.sfits)) in (whole_from_digits (decimal n) of.digits of.some).0
-number_text_is_whole (negsuc n) fits = let of = decimal_digits (suc n) (omega (arith, fits.sfits)) in are_digits_from (decimal (suc n)) of.digits of.some
+number_text_is_whole (negsuc n) fits = let of = decimal_digits (suc n) (omega (arith, fits.sfits)) in all-are_digits (decimal (suc n)) of.digits of.some
 
 pub value_of_number_text : (number : ℤ) → FitsSigned w64 number → value_of_whole (number_text number) ≡ number
 value_of_number_text (pos n) fits =

@@ -1,11 +1,10 @@
 -- The tree of a drawing with new places of its vertices.
-use Rattle.std.specs.Prelude.{◌≡◌, ℕ, ◌<◌, ◌≤◌, ◌*◌, ℤ, pos, ◌*ℤ◌, ◌≤ℤ◌, List, [], ◌∷◌, length, map}
+use Rattle.std.specs.Prelude.{◌≡◌, ℕ, ◌≤◌, ℤ, pos, ◌*ℤ◌, List, [], ◌∷◌, length, map}
 use Rattle.compact_types.specs.declared.places.Point.{Point}
 use Rattle.compact_types.specs.declared.places.Places.{Places}
-use Rattle.compact_types.specs.declared.places.Axis.{Axis}
 use Rattle.compact_types.specs.Lookups.{place, along}
 use Rattle.compact_types.specs.Magnitudes.{AreWithin, IsNowhereNegative}
-use Rattle.compact_types.specs.declared.limits.TheConstants.{GREATEST_PLACE, MOST_PITCH}
+use Rattle.compact_types.specs.declared.limits.TheConstants.{GREATEST_PLACE, MOST_PITCH, THOUSANDTHS}
 use Rattle.gml_text.specs.declared.tree.Tree.{Tree}
 use Rattle.gml_text.specs.declared.tree.Value.{Value}
 use Rattle.gml_text.specs.declared.tree.Value.TheVariants.{Whole}
@@ -41,7 +40,7 @@ pub record CanPut (tree : Tree) (reading : Reading) (places : Places) (pitch : �
 -- a place in thousandths, with so many units between neighbours
 abbrev pub in_thousandths : ℕ → Point → Point
 in_thousandths pitch point =
-    record { x = pos (1000 * pitch) *ℤ point.x; y = pos (1000 * pitch) *ℤ point.y }
+    record { x = THOUSANDTHS *ℤ pos pitch *ℤ point.x; y = THOUSANDTHS *ℤ pos pitch *ℤ point.y }
 
 -- the reading with these places of its vertices: the same plan and the same spots
 abbrev pub moved_reading : Reading → Places → ℕ → Reading

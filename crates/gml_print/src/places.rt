@@ -1,6 +1,6 @@
 //! The tree of a drawing with new places of its vertices.
 
-ghost use Rattle.std.specs.Prelude.{◌≡◌, ◌≤◌, pos, ◌*ℤ◌, IfOk};
+ghost use Rattle.std.specs.Prelude.{◌≡◌, ◌<◌, ◌≤◌, pos, ◌*ℤ◌, length, IfOk};
 ghost use Rattle.compact_types.specs.Magnitudes.{IsWithin, AreWithin};
 ghost use Rattle.compact_types.specs.declared.limits.TheConstants.{GREATEST_PLACE, MOST_PITCH};
 ghost use Rattle.gml_print.specs.Places.{CanPut, placed, numeral_for, coordinate_at};
@@ -8,7 +8,7 @@ ghost use Rattle.gml_print.specs.Places.{CanPut, placed, numeral_for, coordinate
 use crate::copy::copy_tree;
 use crate::number::whole_text;
 use crate::place::put_value;
-use compact_types::{Axis, NoMemory, Places};
+use compact_types::{NoMemory, Places, coordinate};
 use drawing_read::{Reading, Spot};
 use gml_text::{Tree, Value};
 use std::alloc::Global;
@@ -51,9 +51,10 @@ pub fn with_places(
     Ok(new)
 }
 
-/// The whole numeral that stands at a spot.
+/// The whole numeral that is written at a spot.
 #[tactic(auto, using(crate::proofs::PlaceNumbers::coordinate_within))]
 fn numeral_for(alloc: Global, places: &Places, pitch: u32, spot: &Spot) -> Result<Value, NoMemory>
+    requires vertex { spot.now.vertex < length places.now.xy }
     requires within { AreWithin GREATEST_PLACE places.now }
     requires pitch { pitch ≤ MOST_PITCH }
     ensures { IfOk result (λ value. value ≡ numeral_for places.now pitch spot.now) }
@@ -64,18 +65,13 @@ fn numeral_for(alloc: Global, places: &Places, pitch: u32, spot: &Spot) -> Resul
 
 /// The coordinate of a spot.
 fn coordinate_at(places: &Places, spot: &Spot) -> i64
+    requires { spot.now.vertex < length places.now.xy }
     ensures { result ≡ coordinate_at places.now spot.now }
 {
-    match places.xy.get(spot.vertex as usize) {
-        Some(point) => match spot.axis {
-            Axis::X => point.x,
-            Axis::Y => point.y,
-        },
-        None => 0,
-    }
+    coordinate(spot.axis, places.xy.as_slice()[spot.vertex as usize])
 }
 
-/// So many times a coordinate.
+/// `pitch` times a coordinate.
 #[tactic(auto, using(crate::proofs::PlaceNumbers::product_fits))]
 fn multiple(pitch: u32, coordinate: i64) -> i64
     requires within { IsWithin GREATEST_PLACE coordinate }

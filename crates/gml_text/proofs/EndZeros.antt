@@ -1,5 +1,6 @@
 -- The zeros at the end of digits.
 use Rattle.std.specs.Prelude.{◌==◌}
+use Rattle.std.proofs.lemmas.Bool.{and_parts}
 use Rattle.std.proofs.Common.{◌≡◌, ℕ, suc, ◌+◌, ◌-◌, ◌*◌, ◌^◌, ◌<◌, ◌≤◌, ◌%◌, ◌≢◌, zero, Bool, true, false, List, [], ◌∷◌, ◌++◌, length, get_or, replicate, refl, ap, sym, ◌∙◌, arith, subst, sub-one, add-zero}
 use Rattle.std.proofs.lemmas.Bool.Decides.{nat_tests}
 use native.Mathlib.Nat.{mul_assoc, pow-succ'}
@@ -8,7 +9,6 @@ use Rattle.std.proofs.lemmas.Nat.{pow-add}
 use Rattle.std.specs.List.{list_all}
 use Rattle.gml_text.specs.Bytes.{is_digit}
 use Rattle.gml_text.proofs.Digits.{value_of_both}
-use Rattle.gml_text.proofs.NumeralParts.{and_true}
 use Rattle.gml_text.specs.Numerals.{digits_value, digits_value_from}
 use Rattle.gml_text.specs.inner.Scaling.{ends_in_zero, ends_in_zero_after, IsKept}
 
@@ -39,7 +39,7 @@ zeros_at_end digits k = sym (value_of_both digits (replicate k 48)) ∙ zeros_al
 
 no_end_zero : (before : ℕ) (b : ℕ) (digits : List ℕ) → list_all is_digit (b ∷ digits) ≡ true →
     ends_in_zero (b ∷ digits) ≡ false → digits_value_from before (b ∷ digits) % 10 ≢ 0
-no_end_zero before b [] h k = one_digit before b (and_true (is_digit b) true h).0 k
+no_end_zero before b [] h k = one_digit before b (and_parts (is_digit b) true h).0 k
   where
     one_digit : (before b : ℕ) → is_digit b ≡ true → (b == 48) ≡ false → (before * 10 + (b - 48)) % 10 ≢ 0
     one_digit before b h k =
@@ -47,7 +47,7 @@ no_end_zero before b [] h k = one_digit before b (and_true (is_digit b) true h).
         let high : b ≤ 57 = grind (arith, nat_tests) in
         let other : b ≢ 48 = grind (arith, nat_tests) in
         λ e. omega arith
-no_end_zero before b (d ∷ digits) h k = no_end_zero (before * 10 + (b - 48)) d digits (and_true (is_digit b) (list_all is_digit (d ∷ digits)) h).1 k
+no_end_zero before b (d ∷ digits) h k = no_end_zero (before * 10 + (b - 48)) d digits (and_parts (is_digit b) (list_all is_digit (d ∷ digits)) h).1 k
 
 pub not_times_ten : (digits : List ℕ) → list_all is_digit digits ≡ true → ends_in_zero digits ≡ false → 0 < length digits →
     digits_value digits % 10 ≢ 0
@@ -62,13 +62,13 @@ end_of_both before (x ∷ xs) ys h = end_of_both (x == 48) xs ys h
 pub all_of_both : (xs ys : List ℕ) → list_all is_digit xs ≡ true → list_all is_digit ys ≡ true → list_all is_digit (xs ++ ys) ≡ true
 all_of_both [] ys h k = k
 all_of_both (x ∷ xs) ys h k =
-    let e = and_true (is_digit x) (list_all is_digit xs) h in
+    let e = and_parts (is_digit x) (list_all is_digit xs) h in
     rw (e.0) (all_of_both xs ys e.1 k)
 
 pub all_of_front : (xs ys : List ℕ) → list_all is_digit (xs ++ ys) ≡ true → list_all is_digit xs ≡ true
 all_of_front [] ys h = refl
 all_of_front (x ∷ xs) ys h =
-    let e = and_true (is_digit x) (list_all is_digit (xs ++ ys)) h in
+    let e = and_parts (is_digit x) (list_all is_digit (xs ++ ys)) h in
     rw (e.0) (all_of_front xs ys e.1)
 
 -- ---- the digits that are kept

@@ -2,7 +2,7 @@
 use Rattle.std.proofs.Common.{◌≡◌, ℕ, suc, ◌+◌, Bool, true, false, List, [], ◌∷◌, ◌++◌, ◌&&◌, length, take, drop, refl, sym, ◌∙◌, ap, arith}
 use Rattle.std.specs.List.{prefix_len, take_while, list_all}
 use Rattle.std.proofs.lemmas.List.{take_at, drop_at}
-use Rattle.std.proofs.lemmas.Bool.{cond-true, cond-false}
+use Rattle.std.proofs.lemmas.Bool.{and_from, cond-false, cond-true}
 
 -- whether the first byte is of the class
 abbrev pub begins : (ℕ → Bool) → List ℕ → Bool
@@ -16,10 +16,6 @@ and-left false b e = e
 pub and-right : (a b : Bool) → (a && b) ≡ true → b ≡ true
 and-right true b e = e
 and-right false b e = cc
-
-pub and-both : (a b : Bool) → a ≡ true → b ≡ true → (a && b) ≡ true
-and-both true b e h = h
-and-both false b e h = e
 
 pub prefix_len-front : (p : ℕ → Bool) (front rest : List ℕ) → list_all p front ≡ true → begins p rest ≡ false →
     prefix_len p (front ++ rest) ≡ length front
@@ -52,7 +48,7 @@ list_all-take_while p [] = refl
 list_all-take_while p (b ∷ text) = go (p b) refl (list_all-take_while p text)
   where
     go : (test : Bool) → p b ≡ test → list_all p (take_while p text) ≡ true → list_all p (take_while p (b ∷ text)) ≡ true
-    go true e after = ap (λ n. list_all p (take n (b ∷ text))) (prefix_len-yes p b text e) ∙ and-both (p b) (list_all p (take_while p text)) e after
+    go true e after = ap (λ n. list_all p (take n (b ∷ text))) (prefix_len-yes p b text e) ∙ and_from (p b) (list_all p (take_while p text)) e after
     go false e after = ap (λ n. list_all p (take n (b ∷ text))) (prefix_len-no p b text e)
 
 pub begins-drop_while : (p : ℕ → Bool) (text : List ℕ) → begins p (drop (prefix_len p text) text) ≡ false
@@ -66,5 +62,5 @@ begins-drop_while p (b ∷ text) = go (p b) refl (begins-drop_while p text)
 pub list_all-weaken : (p q : ℕ → Bool) (text : List ℕ) → ((b : ℕ) → p b ≡ true → q b ≡ true) → list_all p text ≡ true → list_all q text ≡ true
 list_all-weaken p q [] weaker all = refl
 list_all-weaken p q (b ∷ text) weaker all =
-    and-both (q b) (list_all q text) (weaker b (and-left (p b) (list_all p text) all))
+    and_from (q b) (list_all q text) (weaker b (and-left (p b) (list_all p text) all))
     (list_all-weaken p q text weaker (and-right (p b) (list_all p text) all))

@@ -5,7 +5,7 @@ pub use Rattle.gml_text.proofs.OneAnswer.{one_answer}
 -- the tree of a text is within the grammar, and readable where the text is not too long
 pub use Rattle.gml_text.proofs.Within.{spelled_within, spelled_readable}
 -- words, depth and pairs of a tree, a level at a time
-pub use Rattle.gml_text.proofs.Levels.{tree_words, rolled_words, pair_words, has_right_word, value_words}
+pub use Rattle.gml_text.proofs.Levels.{list_all-map, tree_words, rolled_words, pair_words, has_right_word, value_words}
 pub use Rattle.gml_text.proofs.Levels.{tree_depth, rolled_depth, pair_depth, depth_with_list, value_depth}
 pub use Rattle.gml_text.proofs.Levels.{tree_count, rolled_count, pair_with_value, count_in_list, value_count}
 -- what holds of each value because it holds of the values in its list
@@ -17,7 +17,7 @@ pub use Rattle.gml_text.proofs.Alike.{within_alike, readable_alike}
 -- numerals, their kinds and their parts
 pub use Rattle.gml_text.proofs.Within.{is_numeral-whole, is_numeral-real}
 pub use Rattle.gml_text.proofs.NumeralLaws.{kind_of-whole, kind_of-real, real-kind_of, numeral_has_parts}
-pub use Rattle.gml_text.proofs.NumeralParts.{parts_of-is}
+pub use Rattle.gml_text.proofs.NumeralParts.{all-are_digits, parts_of-is}
 -- the ends of texts
 pub use Rattle.gml_text.proofs.ByteFacts.{is_space-no_word}
 pub use Rattle.gml_text.proofs.Words.{ends_in_word-append}

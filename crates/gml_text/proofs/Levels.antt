@@ -19,7 +19,7 @@ use Rattle.gml_text.specs.PairCounts.{count_in_value, count_in_pair, count_in_pa
 
 -- ---- words
 
-list_all-map : (f : Pair → Bool) (pairs : List Pair) → list_all (λ pair. pair) (map f pairs) ≡ list_all f pairs
+pub list_all-map : (f : Pair → Bool) (pairs : List Pair) → list_all (λ pair. pair) (map f pairs) ≡ list_all f pairs
 list_all-map f [] = refl
 list_all-map f (pair ∷ pairs) = ap (λ rest. f pair && rest) (list_all-map f pairs)
 

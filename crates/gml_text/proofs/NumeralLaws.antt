@@ -1,5 +1,6 @@
 -- The function that tells the kind of a word agrees with the definitions of numerals.
 use Rattle.std.specs.Prelude.{◌==◌}
+use Rattle.std.proofs.lemmas.Bool.{or_parts}
 use Rattle.std.proofs.Common.{◌≡◌, ℕ, ◌<◌, Bool, true, false, cond, List, [], ◌∷◌, ◌++◌, length, Option, None, Some, refl, sym, ap, ◌∙◌, ◌⊎◌, inl, inr, arith, ◌&&◌, ◌||◌}
 use Rattle.std.specs.Option.{is_some, IsSome}
 use Rattle.std.proofs.lemmas.List.{append-nil}
@@ -147,15 +148,11 @@ one_way_of_parts word m n p q = sym (parts_of-is word m p) ∙ parts_of-is word 
 
 -- ---- the value of a whole numeral
 
-or_false : (a b : Bool) → (a || b) ≡ false → (a ≡ false) × (b ≡ false)
-or_false true b h = cc
-or_false false b h = (refl, h)
-
 signed_value : (sign : Sign) (digits : List ℕ) → begins_sign digits ≡ false →
     value_of_whole (sign_text sign ++ digits) ≡ with_sign sign (digits_value digits)
 signed_value no_sign [] h = refl
 signed_value no_sign (b ∷ digits) h =
-    let e = or_false (b == 43) (b == 45) h in
+    let e = or_parts (b == 43) (b == 45) h in
     rw (e.0, e.1) refl
 signed_value plus digits h = refl
 signed_value minus digits h = refl

@@ -1,5 +1,6 @@
 -- A numeral has one way to be split into its parts.
 use Rattle.std.proofs.Common.{◌≡◌, ℕ, ◌+◌, ◌<◌, Bool, true, false, cond, List, [], ◌∷◌, ◌++◌, length, take, Option, None, Some, refl, sym, ap, add_comm, add-one, ◌∙◌, ◌⊎◌, inl, inr, arith, ◌&&◌, ◌||◌}
+use Rattle.std.proofs.lemmas.Bool.{and_parts}
 use Rattle.std.specs.Prelude.{◌==◌, nat_lt}
 use Rattle.std.specs.List.{list_all, prefix_len}
 use Rattle.std.proofs.lemmas.List.{take-append-drop, take_at, drop_at}
@@ -7,10 +8,6 @@ use Rattle.std.proofs.lemmas.Bool.Decides.{nat_tests}
 use Rattle.gml_text.specs.Bytes.{is_digit}
 use Rattle.gml_text.specs.Numerals.{Sign, no_sign, plus, minus, Exponent, Numeral, HasParts, IsNumeral, IsExponent, sign_text, fraction_digits, fraction_text, exponent_text, numeral_text, are_digits, is_sign}
 use Rattle.gml_text.specs.NumeralKinds.{sign_of, after_sign, front_digits, after_digits, fraction_of, after_fraction, exponent_of, parts_after, parts_of, is_exponent, has_digit}
-
-pub and_true : (a b : Bool) → (a && b) ≡ true → (a ≡ true) × (b ≡ true)
-and_true true b h = (refl, h)
-and_true false b h = cc
 
 -- ---- the parts write the word
 
@@ -58,7 +55,7 @@ pub count_of_digits : (digits text : List ℕ) → list_all is_digit digits ≡ 
 count_of_digits [] [] h k = refl
 count_of_digits [] (b ∷ text) h k = rw k refl
 count_of_digits (b ∷ digits) text h k =
-    let e = and_true (is_digit b) (list_all is_digit digits) h in
+    let e = and_parts (is_digit b) (list_all is_digit digits) h in
     rw (e.0) (omega (arith, count_of_digits digits text e.1 k))
 
 pub front_of : (digits text : List ℕ) → list_all is_digit digits ≡ true → begins_digit text ≡ false →
@@ -119,7 +116,7 @@ exponent_no_point (Some e) h = letter_no_point e.letter h.0
 
 pub digits_no_sign : (digits : List ℕ) → list_all is_digit digits ≡ true → begins_sign digits ≡ false
 digits_no_sign [] h = refl
-digits_no_sign (b ∷ digits) h = digit_is_no_sign b (and_true (is_digit b) (list_all is_digit digits) h).0
+digits_no_sign (b ∷ digits) h = digit_is_no_sign b (and_parts (is_digit b) (list_all is_digit digits) h).0
 
 pub exponent_read : (e : Option Exponent) → IsExponent e → exponent_of (exponent_text e) ≡ e
 exponent_read None h = refl
@@ -143,7 +140,7 @@ pub body_no_sign : (whole : List ℕ) (f : Option (List ℕ)) (e : List ℕ) →
     0 < length whole + length (fraction_digits f) → begins_sign (whole ++ (fraction_text f ++ e)) ≡ false
 body_no_sign [] None e h k = absurd (omega arith)
 body_no_sign [] (Some digits) e h k = refl
-body_no_sign (b ∷ whole) f e h k = digit_is_no_sign b (and_true (is_digit b) (list_all is_digit whole) h).0
+body_no_sign (b ∷ whole) f e h k = digit_is_no_sign b (and_parts (is_digit b) (list_all is_digit whole) h).0
 
 same_numeral : (n : Numeral) {s : Sign} {w : List ℕ} {f : Option (List ℕ)} {e : Option Exponent} →
     s ≡ n.sign → w ≡ n.whole → f ≡ n.fraction → e ≡ n.exponent →
@@ -176,10 +173,6 @@ parts_of-is word n p = ap parts_of p.written ∙ parts_are n p.numeral
 
 -- ---- the tests of the parts
 
-pub or_true : (a b : Bool) → (a || b) ≡ true → (a ≡ true) ⊎ (b ≡ true)
-or_true true b h = inl refl
-or_true false b h = inr h
-
 pub are_digits-all : (digits : List ℕ) → are_digits digits ≡ true → list_all is_digit digits ≡ true
 are_digits-all [] h = cc
 are_digits-all (b ∷ digits) h = h
@@ -202,7 +195,7 @@ test_from_letter b (inr e) = rw e refl
 pub exponent_from_test : (e : Option Exponent) → is_exponent e ≡ true → IsExponent e
 exponent_from_test None h = tt
 exponent_from_test (Some e) h =
-    let both = and_true ((e.letter == 101) || (e.letter == 69)) (are_digits e.digits) h in
+    let both = and_parts ((e.letter == 101) || (e.letter == 69)) (are_digits e.digits) h in
     (letter_from_test e.letter both.0, are_digits-all e.digits both.1, are_digits-some e.digits both.1)
 
 pub test_from_exponent : (e : Option Exponent) → IsExponent e → is_exponent e ≡ true
@@ -223,7 +216,7 @@ above_zero n h = grind (arith, nat_tests)
 pub parts_from_tests : (word : List ℕ) → (has_digit (parts_of word) && is_exponent (parts_of word).exponent) ≡ true → HasParts word (parts_of word)
 unfolding parts_of
 parts_from_tests word h =
-    let both = and_true (has_digit (parts_of word)) (is_exponent (parts_of word).exponent) h in
+    let both = and_parts (has_digit (parts_of word)) (is_exponent (parts_of word).exponent) h in
     record {
       numeral = record {
         whole = all_digits (after_sign word);

@@ -1,7 +1,7 @@
 -- Trees that are read are within the grammar, and have no more pairs than their text has bytes.
 use Rattle.std.proofs.Common.{Option, None, Some, ◌≡◌, ℕ, ◌+◌, ◌-◌, ◌≤◌, true, List, [], ◌∷◌, ◌++◌, length, refl, ◌∙◌, ap, arith}
 use Rattle.std.specs.Option.{is_some}
-use Rattle.std.proofs.lemmas.Bool.{false≢true}
+use Rattle.std.proofs.lemmas.Bool.{and_from, false≢true}
 use Rattle.std.proofs.lemmas.List.{length-append}
 use Rattle.std.proofs.lemmas.List.Folds.{list_all-append}
 use Rattle.std.proofs.lemmas.List.Sums.{sum_by-append}
@@ -20,7 +20,6 @@ use Rattle.gml_text.specs.Depths.{depth_of_value, depth_of_pair, depth_of_pairs}
 use Rattle.gml_text.specs.PairCounts.{count_in_value, count_in_pair, count_in_pairs}
 use Rattle.gml_text.specs.Grammar.{IsWithinGrammar, IsReadable}
 use Rattle.gml_text.proofs.NumeralLaws.{kind_of-whole, kind_of-real}
-use Rattle.gml_text.proofs.Fronts.{and-both}
 use Rattle.gml_text.proofs.Levels.{tree_words, rolled_words, pair_words, value_words, tree_depth, rolled_depth, pair_depth, value_depth, push_at_most, tree_count, rolled_count, pair_with_value, value_count}
 
 -- ---- words
@@ -32,12 +31,12 @@ mutual
   pairs_right (a_comment depth offset text pairs words h ends lack) = pairs_right h
   pairs_right (one_more depth offset text pairs piece pair h ends one) =
       list_all-append pair_has_right_words pairs (pair ∷ [])
-      ∙ and-both (have_right_words pairs) (have_right_words (pair ∷ [])) (pairs_right h) (and-both (pair_has_right_words pair) true (pair_right one) refl)
+      ∙ and_from (have_right_words pairs) (have_right_words (pair ∷ [])) (pairs_right h) (and_from (pair_has_right_words pair) true (pair_right one) refl)
 
   pair_right : {depth offset : ℕ} {piece : List ℕ} {pair : Pair} → OnePair depth offset piece pair → pair_has_right_words pair ≡ true
   pair_right (a_pair depth offset key gap text value is_one spaces apart h) =
       pair_words (record { key = key; value = value; at = offset + length key + length gap })
-      ∙ and-both (is_key key) (value_has_right_words value) is_one (value_right h)
+      ∙ and_from (is_key key) (value_has_right_words value) is_one (value_right h)
 
   value_right : {depth offset : ℕ} {text : List ℕ} {value : Value} → HasValue depth offset text value → value_has_right_words value ≡ true
   value_right (a_whole_numeral depth offset word h) = value_words (Whole word) ∙ h

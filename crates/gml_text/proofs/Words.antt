@@ -2,18 +2,18 @@
 use Rattle.std.proofs.Common.{◌≡◌, ℕ, ◌+◌, ◌<◌, ◌⊎◌, inl, inr, Bool, true, false, List, [], ◌∷◌, ◌++◌, length, Option, None, Some, refl, sym, ◌∙◌, ap, subst, arith}
 use Rattle.std.specs.List.{list_all}
 use Rattle.std.proofs.lemmas.List.Folds.{list_all-append}
-use Rattle.std.proofs.lemmas.Bool.{cond-true, cond-false}
+use Rattle.std.proofs.lemmas.Bool.{and_from, cond-false, cond-true}
 use Rattle.std.proofs.lemmas.Bool.Decides.{nat_tests}
 use Rattle.gml_text.specs.Bytes.{is_digit, is_space, is_word_byte, begins_key, goes_on_key, begins_numeral, is_key, are_spaces, ends_in_word, ends_in_word_after, begins_with_word}
 use Rattle.gml_text.specs.Numerals.{Sign, no_sign, plus, minus, Exponent, Numeral, sign_text, fraction_text, fraction_digits, exponent_text, IsNumeral, IsExponent, HasParts, IsRealNumeral, is_whole_numeral, is_sign, are_digits}
 use Rattle.gml_text.proofs.ByteFacts.{begins_key-goes_on, goes_on_key-word, is_space-no_word, is_digit-word}
-use Rattle.gml_text.proofs.Fronts.{begins, and-left, and-right, and-both, list_all-weaken}
+use Rattle.gml_text.proofs.Fronts.{begins, and-left, and-right, list_all-weaken}
 
 pub is_key-word : (key : List ℕ) → is_key key ≡ true → list_all is_word_byte key ≡ true
 is_key-word [] h = refl
 is_key-word (b ∷ key) h =
     list_all-weaken goes_on_key is_word_byte (b ∷ key) goes_on_key-word
-    (and-both (goes_on_key b) (list_all goes_on_key key) (begins_key-goes_on b (and-left (begins_key b) (list_all goes_on_key key) h))
+    (and_from (goes_on_key b) (list_all goes_on_key key) (begins_key-goes_on b (and-left (begins_key b) (list_all goes_on_key key) h))
     (and-right (begins_key b) (list_all goes_on_key key) h))
 
 pub is_key-some : (key : List ℕ) → is_key key ≡ true → 0 < length key
@@ -21,7 +21,7 @@ is_key-some [] h = absurd cc
 is_key-some (b ∷ key) h = omega arith
 
 pub append-word : (front text : List ℕ) → list_all is_word_byte front ≡ true → list_all is_word_byte text ≡ true → list_all is_word_byte (front ++ text) ≡ true
-append-word front text f t = list_all-append is_word_byte front text ∙ and-both (list_all is_word_byte front) (list_all is_word_byte text) f t
+append-word front text f t = list_all-append is_word_byte front text ∙ and_from (list_all is_word_byte front) (list_all is_word_byte text) f t
 
 pub digits-word : (digits : List ℕ) → list_all is_digit digits ≡ true → list_all is_word_byte digits ≡ true
 digits-word digits h = list_all-weaken is_digit is_word_byte digits is_digit-word h
@@ -42,7 +42,7 @@ letter-word b (inr e) = ap is_word_byte e
 exponent-word : (exponent : Option Exponent) → IsExponent exponent → list_all is_word_byte (exponent_text exponent) ≡ true
 exponent-word None h = refl
 exponent-word (Some e) h =
-    and-both (is_word_byte e.letter) (list_all is_word_byte (sign_text e.sign ++ e.digits)) (letter-word e.letter h.0)
+    and_from (is_word_byte e.letter) (list_all is_word_byte (sign_text e.sign ++ e.digits)) (letter-word e.letter h.0)
     (append-word (sign_text e.sign) e.digits (sign-word e.sign) (digits-word e.digits h.1))
 
 -- a word that begins as a numeral does
@@ -97,7 +97,7 @@ IsNumeralWord-whole (b ∷ bytes) h = go (is_sign b) refl
     go true e =
         let digits : are_digits bytes ≡ true = sym (cond-true (is_sign b) (are_digits bytes) (are_digits (b ∷ bytes)) e) ∙ h in
         record {
-          all = and-both (is_word_byte b) (list_all is_word_byte bytes) (is_sign-word b e) (digits-word bytes (are_digits-all bytes digits));
+          all = and_from (is_word_byte b) (list_all is_word_byte bytes) (is_sign-word b e) (digits-word bytes (are_digits-all bytes digits));
           first = is_sign-numeral b e;
         }
     go false e =

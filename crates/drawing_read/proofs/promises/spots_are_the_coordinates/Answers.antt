@@ -10,6 +10,7 @@ use Rattle.drawing_read.specs.Readings.{graph_place, IsGraphReading, IfOne, IsRe
 use Rattle.drawing_read.specs.Coordinates.{AreInDocumentOrder}
 use Rattle.drawing_read.proofs.CoordinateCases.{spot_is_coordinate, coordinate_is_spot}
 use Rattle.drawing_read.proofs.SpotOrder.{graph_in_order}
+use Rattle.drawing_read.proofs.SpotVertices.{spot_vertex_below}
 use Rattle.drawing_read.proofs.promises.spots_are_the_coordinates.Goals as goal
 
 -- the reading is that of the one graph
@@ -32,3 +33,6 @@ returns-clause-all c = λ tree reading graph spot read one.
 
 pub returns-clause-in_order : goal.returns-clause-in_order
 returns-clause-in_order c = λ tree reading read. spots_in_order (graph_place tree) reading (graphs_of tree) read
+
+pub returns-clause-of_vertices : goal.returns-clause-of_vertices
+returns-clause-of_vertices c = λ tree reading s read there. spot_vertex_below tree reading s read there

@@ -5,5 +5,5 @@ use Rattle.drawing_read.proofs.spans.push_pieces.Goals as goal
 
 pub loop-bend-preserved : goal.loop-bend-preserved
 loop-bend-preserved c =
-    rw c.in_ok-push.ensures.ok (chain_more c.loop-bend.pieces (c.args.pieces.now ++ span_pieces c.args.span) c.loop-bend.from c.loop-bend.bend
+    rw (c.in_ok-push.ensures.ok, c.new.ensures) (chain_more c.loop-bend.pieces (c.args.pieces.now ++ span_pieces c.args.span) c.loop-bend.from c.loop-bend.bend
     (c.args.span.first + c.args.span.bends) c.args.span.target (omega arith) c.loop-bend.invariant)
