@@ -1,25 +1,22 @@
 -- What a command writes for a text.
-use Rattle.std.proofs.Common.{◌≡◌, ℕ, ◌≤◌, true, false, List, ◌++◌, length, Result, Ok, Err, refl, sym, ap, ◌∙◌, subst}
-use Rattle.std.specs.Prelude.{IfOk}
+use Rattle.std.proofs.Common.{◌≡◌, ℕ, ◌≤◌, List, ◌++◌, length, refl, sym, ap, ◌∙◌, subst}
 use Rattle.compact_types.specs.declared.places.Axis.TheVariants.{X, Y}
 use Rattle.compact_types.specs.declared.places.Places.{Places}
 use Rattle.compact_types.specs.declared.plan.Shape.{Shape}
-use Rattle.compact_types.specs.Bests.{total_length, IsBest}
-use Rattle.compact_types.specs.Lengths.{length_of}
+use Rattle.compact_types.specs.Bests.{total_length, IsBest, worth_of}
 use Rattle.compact_types.proofs.Laws.{one_best}
-use Rattle.gml_print.specs.Places.{placed}
-use Rattle.gml_print.specs.Printing.{printed}
 use Rattle.cert_text.specs.declared.tree.CertNode.{CertNode}
-use Rattle.cert_text.specs.Accepting.{Accepts}
 use Rattle.cert_text.specs.Texts.{certificate_text}
 use Rattle.compact_main.specs.declared.command.Command.{Command}
 use Rattle.compact_main.specs.declared.command.Command.TheVariants as commands
+use Rattle.compact_main.specs.declared.command.Form.TheVariants.{Plain, Certified}
 use Rattle.compact_main.specs.declared.drawing.Drawing.{Drawing}
 use Rattle.compact_main.specs.Commands.{IsWithinLimits}
 use Rattle.compact_main.specs.Intakes.{limit_of}
-use Rattle.compact_main.specs.Outputs.{Draws, DrawsBest, IsCertified, IsProved, count_line, proved_line, Output, IsUncertified, IsValid}
+use Rattle.compact_main.specs.Drawings.{shape_of, worth_with, text_with, IsSummary}
+use Rattle.compact_main.specs.Outputs.{DrawsBest, IsCertified, IsProved, count_line, proved_line, Output, IsUncertified, IsValid}
 use Rattle.compact_main.specs.Samples.{sample_text, greatest_along}
-use Rattle.compact_main.specs.Summaries.{IsSummary, summary_text}
+use Rattle.compact_main.specs.Summaries.{summary_text}
 use Rattle.compact_main.proofs.BestDrawings.{some_best}
 use Rattle.compact_main.proofs.DrawnIsProved.{best_is_proved}
 use Rattle.compact_main.proofs.OneSummary.{one_summary, some_summary}
@@ -29,44 +26,44 @@ use Rattle.compact_main.proofs.Sound.{sound_shape}
 use Rattle.compact_main.proofs.TextAnswers.{text_answer}
 
 -- an accepted text has an output
-some_drawn : (pitch : ℕ) (text : List ℕ) → IsValid (commands.Draw pitch false) text → (written : List ℕ) × Output (commands.Draw pitch false) text written
+some_drawn : (pitch : ℕ) (text : List ℕ) → IsValid (commands.Draw pitch Plain) text → (written : List ℕ) × Output (commands.Draw pitch Plain) text written
 some_drawn pitch text (drawing, input) =
-    let sound = sound_shape drawing.tree drawing.reading drawing.shape input.holds.read input.holds.checked in
-    let (places, best) = some_best drawing.shape sound in
-    let written = printed (placed drawing.tree drawing.reading.spots places pitch) in
+    let sound = sound_shape drawing.tree drawing.reading (shape_of drawing) input.holds.read input.holds.checked in
+    let (places, best) = some_best (shape_of drawing) sound in
+    let written = text_with drawing pitch places in
     let draws : DrawsBest drawing pitch places written = record { best = best; printed = refl } in
     (written, (drawing, input, (places, draws)))
 
 pub some_output : (command : Command) (text : List ℕ) → IsUncertified command → IsValid command text → (written : List ℕ) × Output command text written
-some_output (commands.Draw pitch true) text none valid = absurd none
-some_output (commands.Draw pitch false) text plain valid = some_drawn pitch text valid
-some_output commands.Check text plain (drawing, input) = (count_line drawing.reading.plan, (drawing, input, refl))
+some_output (commands.Draw pitch Certified) text none valid = absurd none
+some_output (commands.Draw pitch Plain) text plain valid = some_drawn pitch text valid
+some_output commands.Check text plain (drawing, input) = (count_line drawing, (drawing, input, refl))
 some_output commands.Measure text plain (drawing, input) =
     let (summary, is) = some_summary drawing in
     (summary_text summary, (drawing, input, summary, is, refl))
-some_output commands.Verify text plain (drawing, places, is) = (proved_line (length_of drawing.reading.plan places), (drawing, places, is, refl))
+some_output commands.Verify text plain (drawing, places, is) = (proved_line (worth_with drawing places), (drawing, places, is, refl))
 some_output (commands.Sample number) text none valid = absurd none
 
 same_drawn : (drawing : Drawing) (pitch : ℕ) (p q : Places) (a b : List ℕ) → DrawsBest drawing pitch p a → DrawsBest drawing pitch q b → a ≡ b
 same_drawn drawing pitch p q a b first second =
-    first.printed ∙ ap (λ places. printed (placed drawing.tree drawing.reading.spots places pitch))
-    (one_best total_length drawing.shape p q first.best second.best) ∙ sym second.printed
+    first.printed ∙ ap (text_with drawing pitch) (one_best total_length (shape_of drawing) p q first.best second.best) ∙ sym second.printed
 
 -- one output of a text
-pub one_drawn : (pitch : ℕ) (text a b : List ℕ) → Output (commands.Draw pitch false) text a → Output (commands.Draw pitch false) text b → a ≡ b
+pub one_drawn : (pitch : ℕ) (text a b : List ℕ) → Output (commands.Draw pitch Plain) text a → Output (commands.Draw pitch Plain) text b → a ≡ b
 one_drawn pitch text a b (first, input, (p, draws)) (second, other, (q, draws_too)) =
     let same = (text_answer text).one_value first second input.holds other.holds in
     same_drawn second pitch p q a b (subst (λ (d : Drawing). DrawsBest d pitch p a) same draws) draws_too
 
 -- a drawing with its certificate is that without one, and a certificate
-pub plain_front : (pitch : ℕ) (text a : List ℕ) → Output (commands.Draw pitch true) text a →
-    (front : List ℕ) × Output (commands.Draw pitch false) text front × ((nodes : List CertNode) × IsCertified pitch front nodes a)
-plain_front pitch text a (drawing, input, (places, nodes, is)) = (is.front, (drawing, input, (places, is.draws)), (nodes, is.certified))
+pub plain_front : (pitch : ℕ) (text a : List ℕ) → Output (commands.Draw pitch Certified) text a →
+    (front : List ℕ) × Output (commands.Draw pitch Plain) text front × ((nodes : List CertNode) × IsCertified pitch front nodes a)
+plain_front pitch text a (drawing, input, (places, nodes, is)) =
+    (is.front, (drawing, record { within = input.within; holds = input.holds }, (places, is.draws)), (nodes, is.certified))
 
 pub one_counted : (text a b : List ℕ) → Output commands.Check text a → Output commands.Check text b → a ≡ b
 one_counted text a b (first, input, is) (second, other, is_too) =
     let same = (text_answer text).one_value first second input.holds other.holds in
-    is ∙ ap (λ (d : Drawing). count_line d.reading.plan) same ∙ sym is_too
+    is ∙ ap count_line same ∙ sym is_too
 
 pub one_measured : (text a b : List ℕ) → Output commands.Measure text a → Output commands.Measure text b → a ≡ b
 one_measured text a b (first, input, p, is, written) (second, other, q, is_too, written_too) =
@@ -79,8 +76,8 @@ one_verified text a b (first, p, is, told) (second, q, is_too, told_too) =
     let same = (text_answer text).one_value first second is.input.holds is_too.input.holds in
     let moved : IsProved text second p = subst (λ (d : Drawing). IsProved text d p) same is in
     let equal : p ≡ q = one_proved text second p q moved is_too in
-    told ∙ ap (λ (d : Drawing). proved_line (length_of d.reading.plan p)) same
-    ∙ ap (λ (places : Places). proved_line (length_of second.reading.plan places)) equal ∙ sym told_too
+    told ∙ ap (λ (d : Drawing). proved_line (worth_with d p)) same
+    ∙ ap (λ (places : Places). proved_line (worth_with second places)) equal ∙ sym told_too
 
 pub one_sampled : (number : ℕ) (text a b : List ℕ) → Output (commands.Sample number) text a → Output (commands.Sample number) text b → a ≡ b
 one_sampled number text a b first second =
@@ -90,10 +87,10 @@ one_sampled number text a b first second =
     first.told ∙ ap (λ (s : Shape). text_of s first.best_places) shapes ∙ ap (λ (p : Places). text_of second.shape p) places ∙ sym second.told
   where
     text_of : Shape → Places → List ℕ
-    text_of shape places = sample_text number shape.plan (length_of shape.plan places) (greatest_along X places) (greatest_along Y places)
+    text_of shape places = sample_text number shape.plan (worth_of total_length shape places) (greatest_along X places) (greatest_along Y places)
 
 -- what is drawn with a certificate is proved
-pub drawn_verified : (pitch : ℕ) (text written : List ℕ) → IsWithinLimits (commands.Draw pitch true) → Output (commands.Draw pitch true) text written →
+pub drawn_verified : (pitch : ℕ) (text written : List ℕ) → IsWithinLimits (commands.Draw pitch Certified) → Output (commands.Draw pitch Certified) text written →
     length written ≤ limit_of commands.Verify → IsValid commands.Verify written
 drawn_verified pitch text written (some, most) (drawing, input, (places, nodes, is)) within =
     let whole = is.certified.behind ∙ ap (λ front. front ++ certificate_text pitch nodes) is.draws.printed in
@@ -110,11 +107,3 @@ drawn_verified pitch text written (some, most) (drawing, input, (places, nodes, 
         accepted = by.accepted;
       },
     )
-
--- a front and the certificate behind it are a drawing with its certificate
-pub drawn_certified : {E : Type 0} (drawing : Drawing) (pitch : ℕ) (places : Places) (nodes : List CertNode) (front : List ℕ) (result : Result (List ℕ) E) →
-    DrawsBest drawing pitch places front → Accepts drawing.shape places nodes → IfOk result (IsCertified pitch front nodes) →
-    IfOk result (Draws true drawing pitch)
-drawn_certified drawing pitch places nodes front (Ok text) draws accepted certified =
-    (places, nodes, record { front = front; draws = draws; accepted = accepted; certified = certified })
-drawn_certified drawing pitch places nodes front (Err refused) draws accepted certified = tt

@@ -7,7 +7,6 @@ use Rattle.compact_types.specs.declared.places.Axis.TheVariants.{X, Y}
 use Rattle.compact_types.specs.declared.places.Point.{Point}
 use Rattle.compact_types.specs.declared.places.Places.{Places}
 use Rattle.compact_types.specs.declared.plan.Shape.{Shape}
-use Rattle.compact_types.specs.Bests.{total_length, IsBest}
 use Rattle.compact_types.specs.Lookups.{place, along}
 use Rattle.compact_types.specs.Scalings.{IsScaled}
 use Rattle.gml_text.specs.declared.tree.Tree.{Tree}
@@ -20,15 +19,14 @@ use Rattle.gml_print.specs.Places.{CanPut, placed, in_thousandths, moved_reading
 use Rattle.gml_print.specs.Printing.{printed}
 use Rattle.gml_print.proofs.Laws.{reads_back, placed_within, placed_reading}
 use Rattle.cert_text.specs.declared.tree.CertNode.{CertNode}
-use Rattle.cert_text.specs.Accepting.{Accepts}
 use Rattle.cert_text.specs.Certificates.{IsBeforeLine, IsPitch, IsCertificate}
 use Rattle.cert_text.specs.Loads.{IsCertTree}
 use Rattle.cert_text.specs.Texts.{certificate_text}
+use Rattle.cert_text.proofs.Laws.{printed_certificate}
 use Rattle.compact_main.specs.declared.drawing.Drawing.{Drawing}
-use Rattle.compact_main.specs.Drawings.{HoldsDrawing}
+use Rattle.compact_main.specs.Drawings.{HoldsDrawing, shape_of, AreBestPlaces, IsAccepted, IsOnGridAt, text_with}
 use Rattle.compact_main.proofs.BestDrawings.{can_put}
 use Rattle.compact_main.proofs.ScaledUp.{shape_of_scaled}
-use Rattle.compact_main.proofs.WrittenCertificates.{certificate_behind}
 use Rattle.compact_main.proofs.WrittenTexts.{spelled_with_certificate, printed_before_line}
 
 -- as many points, each in thousandths
@@ -56,22 +54,22 @@ in_grid_steps reading places pitch =
           ∙ along_in_thousandths pitch axis (place places.xy v);
     }
 
--- the text is proved by these entries: it holds a drawing of the shape, which stands on the grid of
+-- the text is proved by these entries: it holds a drawing of the shape, which is on the grid of
 -- the pitch at these places in grid steps; it ends with the certificate; and that shows that the
 -- places are the best
 pub record IsProvedBy (text : List ℕ) (shape : Shape) (places : Places) (pitch : ℕ) (nodes : List CertNode) : Type 0 where
   pub drawing : Drawing
   pub holds : HoldsDrawing text drawing
-  pub same_shape : drawing.shape ≡ shape
+  pub same_shape : shape_of drawing ≡ shape
   pub certificate : IsCertificate text pitch nodes
-  pub scaled : IsScaled (pos (1000 * pitch)) drawing.reading.places places
-  pub accepted : Accepts drawing.shape places nodes
+  pub scaled : IsOnGridAt drawing pitch places
+  pub accepted : IsAccepted drawing places nodes
 
 -- what is written of a drawing with accepted places and their certificate is proved
 pub drawn_is_proved : (text : List ℕ) (drawing : Drawing) (places : Places) (pitch : ℕ) (nodes : List CertNode) (written : List ℕ) →
-    HoldsDrawing text drawing → CanPut drawing.tree drawing.reading places pitch → IsCertTree nodes → Accepts drawing.shape places nodes →
-    written ≡ printed (placed drawing.tree drawing.reading.spots places pitch) ++ certificate_text pitch nodes →
-    IsProvedBy written drawing.shape places pitch nodes
+    HoldsDrawing text drawing → CanPut drawing.tree drawing.reading places pitch → IsCertTree nodes → IsAccepted drawing places nodes →
+    written ≡ text_with drawing pitch places ++ certificate_text pitch nodes →
+    IsProvedBy written (shape_of drawing) places pitch nodes
 drawn_is_proved text drawing places pitch nodes written holds can tree accepted is =
     let some = can.some_pitch in
     let most = can.most_pitch in
@@ -82,28 +80,28 @@ drawn_is_proved text drawing places pitch nodes written holds can tree accepted 
     reads_back new (placed_within drawing.tree drawing.reading.spots places pitch can.within most (spelled_within text drawing.tree holds.spelled)) in
     let read : IsReading back.read moved =
     reading_alike new back.read moved back.alike
-    (placed_reading drawing.tree drawing.reading places pitch drawing.shape can holds.checked.same_plan accepted.drawing.crossing_free) in
+    (placed_reading drawing.tree drawing.reading places pitch (shape_of drawing) can holds.checked.same_plan accepted.drawing.crossing_free) in
     let scaled = in_grid_steps drawing.reading places pitch in
-    let proved : IsProvedBy (printed new ++ certificate_text pitch nodes) drawing.shape places pitch nodes = record {
-      drawing = record { tree = back.read; reading = moved; shape = drawing.shape };
+    let proved : IsProvedBy (printed new ++ certificate_text pitch nodes) (shape_of drawing) places pitch nodes = record {
+      drawing = record { tree = back.read; reading = moved; bars = shape_of drawing };
       holds = record {
         spelled = spelled_with_certificate (printed new) back.read pitch nodes before (omega (arith, most)) tree.in_range back.spelled;
         read = read;
-        checked = shape_of_scaled (1000 * pitch) drawing.reading.plan drawing.shape drawing.reading.places moved.places places (omega (arith, some)) scaled
+        checked = shape_of_scaled (1000 * pitch) drawing.reading.plan (shape_of drawing) drawing.reading.places moved.places places (omega (arith, some)) scaled
             holds.checked accepted.drawing.crossing_free;
       };
       same_shape = refl;
-      certificate = certificate_behind (printed new) pitch nodes before (record { some = some; most = most }) tree;
+      certificate = printed_certificate (printed new) pitch nodes before (record { some = some; most = most }) tree;
       scaled = scaled;
       accepted = accepted;
     } in
-    subst (λ (text : List ℕ). IsProvedBy text drawing.shape places pitch nodes) (sym is) proved
+    subst (λ (text : List ℕ). IsProvedBy text (shape_of drawing) places pitch nodes) (sym is) proved
 
 -- and so is what is written with the best places of the drawing's shape
 pub best_is_proved : (text : List ℕ) (drawing : Drawing) (places : Places) (pitch : ℕ) (nodes : List CertNode) (written : List ℕ) →
-    HoldsDrawing text drawing → IsBest total_length drawing.shape places → IsPitch pitch → IsCertTree nodes → Accepts drawing.shape places nodes →
-    written ≡ printed (placed drawing.tree drawing.reading.spots places pitch) ++ certificate_text pitch nodes →
-    IsProvedBy written drawing.shape places pitch nodes
+    HoldsDrawing text drawing → AreBestPlaces drawing places → IsPitch pitch → IsCertTree nodes → IsAccepted drawing places nodes →
+    written ≡ text_with drawing pitch places ++ certificate_text pitch nodes →
+    IsProvedBy written (shape_of drawing) places pitch nodes
 best_is_proved text drawing places pitch nodes written holds best pitched tree accepted is =
     drawn_is_proved text drawing places pitch nodes written holds
-    (can_put drawing.tree drawing.reading drawing.shape places pitch holds.read holds.checked best pitched.some pitched.most) tree accepted is
+    (can_put drawing.tree drawing.reading (shape_of drawing) places pitch holds.read holds.checked best pitched.some pitched.most) tree accepted is

@@ -1,6 +1,6 @@
-pub mod Words
 pub mod TextLimits
-pub mod WordLists
+pub mod OptionWords
+pub mod CommandWords
 pub mod Lines
 pub mod Refusals
 pub mod TextAnswers
@@ -17,9 +17,9 @@ pub mod SampleMeetings
 pub mod SampleDrawings
 pub mod SampleSizes
 pub mod SampleLaws
+pub mod ShownBest
 pub mod ScaledUp
 pub mod WrittenTexts
-pub mod WrittenCertificates
 pub mod DrawnIsProved
 pub mod GridAnswers
 pub mod ProvedAnswers

@@ -1,19 +1,20 @@
 -- The numbers of a drawing: there is one for each.
-use Rattle.std.proofs.Common.{◌≡◌, length, refl, sym, ◌∙◌}
+use Rattle.std.proofs.Common.{◌≡◌, refl, sym, ◌∙◌}
 use Rattle.compact_types.specs.declared.places.Axis.TheVariants.{X, Y}
 use Rattle.compact_types.specs.Lengths.{plain_length_of}
 use Rattle.bars.specs.Lines.{line_count}
 use Rattle.bars.specs.Segments.{segment_count, IsPair}
 use Rattle.compact_main.specs.declared.drawing.Drawing.{Drawing}
 use Rattle.compact_main.specs.declared.summary.Summary.{Summary}
-use Rattle.compact_main.specs.Summaries.{IsSummary, IsSeparatedPair}
+use Rattle.compact_main.specs.Drawings.{shape_of, vertex_count, piece_count, IsSummary}
+use Rattle.compact_main.specs.Summaries.{IsSeparatedPair}
 use Rattle.compact_main.proofs.Counts.{one_pair_count, some_pair_count}
 use Rattle.compact_main.proofs.PairChoice.{pair_or_not, separated_pair_or_not}
 
 pub one_summary : (drawing : Drawing) (a b : Summary) → IsSummary drawing a → IsSummary drawing b → a ≡ b
 one_summary drawing a b first second =
-    let pairs = one_pair_count (IsPair drawing.shape) (segment_count drawing.shape) a.pairs b.pairs first.pairs second.pairs in
-    let separated = one_pair_count (IsSeparatedPair drawing.shape) (segment_count drawing.shape) a.separated b.separated first.separated second.separated in
+    let pairs = one_pair_count (IsPair (shape_of drawing)) (segment_count (shape_of drawing)) a.pairs b.pairs first.pairs second.pairs in
+    let separated = one_pair_count (IsSeparatedPair (shape_of drawing)) (segment_count (shape_of drawing)) a.separated b.separated first.separated second.separated in
     λ i. record {
       vertices = (first.vertices ∙ sym second.vertices) i;
       pieces = (first.pieces ∙ sym second.pieces) i;
@@ -27,14 +28,14 @@ one_summary drawing a b first second =
 
 pub some_summary : (drawing : Drawing) → (summary : Summary) × IsSummary drawing summary
 some_summary drawing =
-    let (pairs, counted) = some_pair_count (IsPair drawing.shape) (pair_or_not drawing.shape) (segment_count drawing.shape) in
-    let (separated, counted_too) = some_pair_count (IsSeparatedPair drawing.shape) (separated_pair_or_not drawing.shape) (segment_count drawing.shape) in (
+    let (pairs, counted) = some_pair_count (IsPair (shape_of drawing)) (pair_or_not (shape_of drawing)) (segment_count (shape_of drawing)) in
+    let (separated, counted_too) = some_pair_count (IsSeparatedPair (shape_of drawing)) (separated_pair_or_not (shape_of drawing)) (segment_count (shape_of drawing)) in (
       record {
-        vertices = drawing.reading.plan.vertices;
-        pieces = length drawing.reading.plan.pieces;
-        rows = line_count X drawing.shape;
-        columns = line_count Y drawing.shape;
-        bars = segment_count drawing.shape;
+        vertices = vertex_count drawing;
+        pieces = piece_count drawing;
+        rows = line_count X (shape_of drawing);
+        columns = line_count Y (shape_of drawing);
+        bars = segment_count (shape_of drawing);
         pairs = pairs;
         separated = separated;
         length = plain_length_of drawing.reading.plan drawing.reading.places;

@@ -7,13 +7,11 @@ use Rattle.std.proofs.Math.Nat.{mul-le-mul_left}
 use Rattle.std.proofs.lemmas.Int.{ints, unsigned_abs-mul}
 use Rattle.compact_types.specs.declared.limits.TheConstants.{GREATEST_COORDINATE, GREATEST_THOUSANDTHS, MOST_CHOICES}
 use Rattle.compact_types.specs.declared.places.Places.{Places}
-use Rattle.compact_types.specs.Bests.{IsBest}
-use Rattle.compact_types.specs.Bests.Objective.{total_length}
+use Rattle.compact_types.specs.declared.plan.Plan.{Plan}
 use Rattle.compact_types.specs.Lookups.{place, along}
 use Rattle.compact_types.specs.Magnitudes.{IsWithin, AreWithin}
 use Rattle.cert_text.specs.declared.tree.CertNode.{CertNode}
 use Rattle.cert_text.specs.declared.tree.CertNode.TheVariants.{Split, Bound, Cycle}
-use Rattle.cert_text.specs.Accepting.{Accepts}
 use Rattle.cert_text.specs.Certificates.{IsCertificate, IsPitch}
 use Rattle.cert_text.specs.declared.fault.CertFault.{CertFault}
 use Rattle.cert_text.specs.declared.tree.CertTree.{CertTree}
@@ -22,7 +20,6 @@ use Rattle.cert_text.specs.Loads.{IsCertTree}
 use Rattle.cert_text.specs.Texts.{head_line, entry_line, entry_lines, certificate_text}
 use Rattle.cert_text.specs.Trees.{IsShallow}
 use Rattle.cert_check.specs.declared.fault.CheckFault.{CheckFault}
-use Rattle.cert_check.specs.Faults.{FirstCheckFault}
 use Rattle.compact_types.proofs.Laws.{drawing-scaled, one_scaled, scaled_not_off, one_first_off}
 use Rattle.cert_text.proofs.Laws.{accepted_best, one_certificate, whole_shallow, shallower_from}
 use Rattle.cert_check.proofs.Laws.{one_check, only_fault, no_fault}
@@ -31,8 +28,8 @@ use Rattle.compact_main.specs.declared.command.Command.TheVariants.{Verify}
 use Rattle.compact_main.specs.declared.drawing.Drawing.{Drawing}
 use Rattle.compact_main.specs.declared.status.Unproved.{Unproved}
 use Rattle.compact_main.specs.declared.status.Unproved.TheVariants as unproved
-use Rattle.compact_main.specs.Intakes.{limit_of}
-use Rattle.compact_main.specs.Outputs.{IsInput, IsProved, FirstUnproved, step_of}
+use Rattle.compact_main.specs.Drawings.{shape_of, step_of, AreBestPlaces, IsAccepted, IsFirstFlaw, IsOnGridAt, IsFirstOffGrid}
+use Rattle.compact_main.specs.Outputs.{IsInput, IsProved, FirstUnproved}
 use Rattle.compact_types.specs.Scalings.{IsScaled, IsFirstOff}
 use Rattle.compact_main.specs.inner.Proofs.{CanCheck, CanMeasure}
 use Rattle.compact_main.proofs.GridAnswers.{some_scaled_or_off}
@@ -102,13 +99,12 @@ shallow nodes tree few =
     shallower_from (length nodes) MOST_CHOICES nodes (0 ∷ []) (omega (arith, few)) (whole_shallow nodes tree.whole)
 
 -- what is asked for a check is there
-module _ (text : List ℕ) (drawing : Drawing) (input : IsInput (limit_of Verify) text drawing) where
+module _ (text : List ℕ) (drawing : Drawing) (input : IsInput Verify text drawing) where
   pub can_check : (pitch : ℕ) (nodes : List CertNode) (places : Places) → IsPitch pitch → IsCertTree nodes → length nodes ≤ MOST_BYTES →
-      IsScaled (step_of pitch) drawing.reading.places places → CanCheck drawing.shape places nodes
+      IsOnGridAt drawing pitch places → CanCheck (shape_of drawing) places nodes
   can_check pitch nodes places pitched tree few scaled = record {
-    sound = sound_shape drawing.tree drawing.reading drawing.shape input.holds.read input.holds.checked;
-    drawing = drawing-scaled (step_of pitch) drawing.shape drawing.reading.places places (some_step pitch pitched.some) scaled
-        (is_drawing drawing.reading.plan drawing.reading.places drawing.shape input.holds.checked);
+    drawing = drawing-scaled (step_of pitch) (shape_of drawing) drawing.reading.places places (some_step pitch pitched.some) scaled
+        (is_drawing drawing.reading.plan drawing.reading.places (shape_of drawing) input.holds.checked);
     near = near_on_grid pitch drawing.reading.places places pitched.some scaled
         (within_limits drawing.tree drawing.reading input.holds.read).within_reach;
     whole = tree.whole;
@@ -117,22 +113,23 @@ module _ (text : List ℕ) (drawing : Drawing) (input : IsInput (limit_of Verify
   }
 
   -- proved places can be measured
-  pub can_measure : (places : Places) → IsProved text drawing places → CanMeasure drawing.reading.plan places
-  can_measure places is =
+  pub can_measure : (pitch : ℕ) (places : Places) → IsPitch pitch → IsOnGridAt drawing pitch places → CanMeasure (shape_of drawing) places
+  can_measure pitch places pitched scaled =
       let limits = within_limits drawing.tree drawing.reading input.holds.read in
+      let planned = subst (λ (p : Plan). length drawing.reading.places.xy ≡ p.vertices) (sym input.holds.checked.same_plan) limits.places_fit in
       record {
-        places_fit = sym is.scaled.points ∙ limits.places_fit;
-        few = let few = limits.few_pieces in omega (arith, few);
-        near = wider places (near_on_grid is.pitch drawing.reading.places places is.certificate.pitched.some is.scaled limits.within_reach);
+        fit = sym scaled.points ∙ planned;
+        near = wider places (near_on_grid pitch drawing.reading.places places pitched.some scaled limits.within_reach);
       }
 
 -- a proved drawing is the best one of its shape
-pub proved_best : (text : List ℕ) (drawing : Drawing) (places : Places) → IsProved text drawing places → IsBest total_length drawing.shape places
+pub proved_best : (text : List ℕ) (drawing : Drawing) (places : Places) → IsProved text drawing places → AreBestPlaces drawing places
 proved_best text drawing places is =
     let few = few_in_text text is.pitch is.nodes is.certificate in
     let within = is.input.within in
     let can = can_check text drawing is.input is.pitch is.nodes places is.certificate.pitched is.certificate.tree (omega (arith, few, within)) is.scaled in
-    accepted_best drawing.shape places is.nodes can.sound can.shallow is.accepted
+    accepted_best (shape_of drawing) places is.nodes
+    (sound_shape drawing.tree drawing.reading (shape_of drawing) is.input.holds.read is.input.holds.checked) can.shallow is.accepted
 
 -- a certificate as it is read: its pitch and its tree
 abbrev Found : Type 0
@@ -147,16 +144,16 @@ found_of pitch nodes = (pitch, record { nodes = nodes })
 module _ (text : List ℕ) (drawing : Drawing) where
   -- the cause, where the certificate is this
   abbrev IsOff : Found → ℕ → Type 0
-  IsOff found vertex = IsFirstOff (step_of found.0) drawing.reading.places vertex
+  IsOff found vertex = IsFirstOffGrid drawing found.0 vertex
 
   abbrev IsOn : Found → Places → Type 0
-  IsOn found places = IsScaled (step_of found.0) drawing.reading.places places
+  IsOn found places = IsOnGridAt drawing found.0 places
 
   abbrev IsWrong : Found → CheckFault → Type 0
-  IsWrong found fault = (places : Places) × IsOn found places × FirstCheckFault drawing.shape places found.1.nodes fault
+  IsWrong found fault = (places : Places) × IsOn found places × IsFirstFlaw drawing places found.1.nodes fault
 
   abbrev IsShown : Found → Places → Type 0
-  IsShown found places = IsOn found places × Accepts drawing.shape places found.1.nodes
+  IsShown found places = IsOn found places × IsAccepted drawing places found.1.nodes
 
   same_found : (a b : Found) → IsFound text a → IsFound text b → a ≡ b
   same_found a b first second = (one_certificate text).one_value a b first second
@@ -169,8 +166,8 @@ module _ (text : List ℕ) (drawing : Drawing) where
 
   one_wrong : (found : Found) (f g : CheckFault) → IsFound text found → IsWrong found f → IsWrong found g → f ≡ g
   one_wrong found f g is (p, on, first) (q, on_too, second) =
-      only_fault drawing.shape q found.1.nodes f g
-      (subst (λ (places : Places). FirstCheckFault drawing.shape places found.1.nodes f) (same_places found p q is on on_too) first) second
+      only_fault (shape_of drawing) q found.1.nodes f g
+      (subst (λ (places : Places). IsFirstFlaw drawing places found.1.nodes f) (same_places found p q is on on_too) first) second
 
   not_off_and_on : (found : Found) (places : Places) (vertex : ℕ) → IsOn found places → IsOff found vertex → ⊥
   not_off_and_on found places vertex on off = scaled_not_off (step_of found.0) drawing.reading.places places vertex on off
@@ -207,8 +204,8 @@ module _ (text : List ℕ) (drawing : Drawing) where
       let own = found_of is.pitch is.nodes in
       let same = same_found (found_of q m) own is_too is.certificate in
       let (moved, here, first) : IsWrong own f = subst (λ (found : Found). IsWrong found f) same (others, on, wrong) in
-      no_fault drawing.shape places is.nodes is.accepted f
-      (subst (λ (p : Places). FirstCheckFault drawing.shape p is.nodes f) (same_places own moved places is.certificate here is.scaled) first)
+      no_fault (shape_of drawing) places is.nodes is.accepted f
+      (subst (λ (p : Places). IsFirstFlaw drawing p is.nodes f) (same_places own moved places is.certificate here is.scaled) first)
 
   -- the places of a proved drawing
   pub one_proved : (p q : Places) → IsProved text drawing p → IsProved text drawing q → p ≡ q
@@ -218,12 +215,12 @@ module _ (text : List ℕ) (drawing : Drawing) where
       same_places own p q is_too.certificate (subst (λ (found : Found). IsOn found p) same is.scaled) is_too.scaled
 
 -- one of the two
-module _ (text : List ℕ) (drawing : Drawing) (input : IsInput (limit_of Verify) text drawing) where
+module _ (text : List ℕ) (drawing : Drawing) (input : IsInput Verify text drawing) where
   abbrev HasCause : Type 0
   HasCause = ((places : Places) × IsProved text drawing places) ⊎ ((cause : Unproved) × FirstUnproved text drawing cause)
 
   by_check : (found : Found) (places : Places) → IsFound text found → IsOn text drawing found places →
-      (Unit {0} × Accepts drawing.shape places found.1.nodes) ⊎ ((fault : CheckFault) × FirstCheckFault drawing.shape places found.1.nodes fault) → HasCause
+      (Unit {0} × IsAccepted drawing places found.1.nodes) ⊎ ((fault : CheckFault) × IsFirstFlaw drawing places found.1.nodes fault) → HasCause
   by_check found places is on (inl (shown, accepted)) = inl (
     places,
     record { input = input; pitch = found.0; nodes = found.1.nodes; certificate = is; scaled = on; accepted = accepted },
@@ -236,7 +233,8 @@ module _ (text : List ℕ) (drawing : Drawing) (input : IsInput (limit_of Verify
       let few : length found.1.nodes ≤ MOST_BYTES =
       (let least = few_in_text text found.0 found.1.nodes is in let within = input.within in omega (arith, least, within)) in
       let can = can_check text drawing input found.0 found.1.nodes places is.pitched is.tree few on in
-      by_check found places is on (one_check drawing.shape places found.1.nodes can.sound can.drawing can.whole can.in_range can.shallow).some
+      let sound = sound_shape drawing.tree drawing.reading (shape_of drawing) input.holds.read input.holds.checked in
+      by_check found places is on (one_check (shape_of drawing) places found.1.nodes sound can.drawing can.whole can.in_range can.shallow).some
   by_grid found is (inr (vertex, off)) = inr (unproved.NotWhole vertex, (found.0, found.1.nodes, is, off))
 
   by_text : ((found : Found) × IsFound text found) ⊎ ((fault : CertFault) × FirstCertFault text fault) → HasCause

@@ -14,7 +14,9 @@ use Rattle.drawing_check.specs.Shapes.{IsShapeOf}
 use Rattle.bars.specs.Segments.{segment_count}
 use Rattle.bars.specs.Solutions.{IsSound}
 use Rattle.bars.proofs.Laws.{few_segments}
-use Rattle.compact_main.specs.inner.Proofs.{CanSearch}
+use Rattle.compact_main.specs.declared.drawing.Drawing.{Drawing}
+use Rattle.compact_main.specs.Drawings.{shape_of}
+use Rattle.compact_main.specs.inner.Found.{IsRead}
 
 -- a reading keeps the limits
 pub within_limits : (tree : Tree) (reading : Reading) → IsReading tree reading → IsWithinLimits reading
@@ -35,14 +37,13 @@ sound_shape tree reading shape read is =
 pub is_drawing : (plan : Plan) (places : Places) (shape : Shape) → IsShapeOf plan places shape → IsDrawing shape places
 is_drawing plan places shape is = record { crossing_free = is.crossing_free }
 
--- so a search can begin with them
-pub can_search : (tree : Tree) (reading : Reading) (shape : Shape) → IsReading tree reading → IsShapeOf reading.plan reading.places shape →
-    CanSearch shape reading.places
-can_search tree reading shape read is = record {
-  sound = sound_shape tree reading shape read is;
-  drawing = is_drawing reading.plan reading.places shape is;
-  near = (reading_within_limits tree reading read).within_reach;
-}
+-- so of a drawing that was read
+module _ (drawing : Drawing) (is : IsRead drawing) where
+  pub sound_read : IsSound (shape_of drawing)
+  sound_read = sound_shape drawing.tree drawing.reading (shape_of drawing) is.read is.checked
+
+  pub drawn_read : IsDrawing (shape_of drawing) drawing.reading.places
+  drawn_read = is_drawing drawing.reading.plan drawing.reading.places (shape_of drawing) is.checked
 
 pub few_segments_sound : (shape : Shape) → IsSound shape → segment_count shape ≤ MOST_VERTICES
 few_segments_sound shape sound = let few = few_segments shape sound.drawable in let most = sound.few_vertices in omega arith

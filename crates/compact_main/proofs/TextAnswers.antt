@@ -85,7 +85,7 @@ module _ (tree : Tree) where
 -- the two stages of a text
 module _ (text : List ℕ) where
   abbrev drawing_of : Tree → Part → Drawing
-  drawing_of tree part = record { tree = tree; reading = part.0; shape = part.1 }
+  drawing_of tree part = record { tree = tree; reading = part.0; bars = part.1 }
 
   abbrev TextStages : Drawing → Type 0
   TextStages = IsMadeOf (Spells text) IsPart drawing_of
@@ -115,5 +115,5 @@ module _ (text : List ℕ) where
   text_answer = one_answer_alike {P = TextStages} {R = HoldsDrawing text} {Q = TextFaults} {S = FirstTextFault text}
       (one_answer_in_two_stages drawing_of (λ fault. Gml fault) (λ why. why) (texts.one_answer text) (λ tree spelled. tree_answer tree))
       (λ drawing of. subst (HoldsDrawing text) of.is (record { spelled = of.has_first; read = of.has_second.0; checked = of.has_second.1 }))
-      (λ drawing is. record { first = drawing.tree; second = (drawing.reading, drawing.shape); has_first = is.spelled; has_second = (is.read, is.checked); is = refl })
+      (λ drawing is. record { first = drawing.tree; second = (drawing.reading, drawing.bars); has_first = is.spelled; has_second = (is.read, is.checked); is = refl })
       text_fault text_fault_back

@@ -1,6 +1,6 @@
 -- The words that the program takes.
-use Rattle.std.specs.Prelude.{◌≡◌, ℕ, ◌≤◌, Bool, true, false, not, List, [], ◌∷◌, map, codes, decimal}
-use Rattle.std.specs.Prelude.{Option, None, Some, unwrap_or}
+use Rattle.std.specs.Prelude.{◌≡◌, ℕ, ◌≤◌, false, true, List, [], ◌∷◌, map, codes, decimal}
+use Rattle.std.specs.Prelude.{None, Some, unwrap_or, if◌then◌else◌}
 use Rattle.std.specs.String.{string_bytes}
 use Rattle.std.specs.declared.string.String.{String}
 use Rattle.std.specs.declared.alloc.Global.{Global}
@@ -8,6 +8,9 @@ use Rattle.compact_types.specs.declared.limits.TheConstants.{MOST_PITCH}
 use Rattle.compact_main.specs.declared.sample.TheConstants.{MOST_SAMPLE}
 use Rattle.compact_main.specs.declared.command.Command.{Command}
 use Rattle.compact_main.specs.declared.command.Command.TheVariants.{Draw, Check, Measure, Verify, Sample}
+use Rattle.compact_main.specs.declared.command.Form.{Form}
+use Rattle.compact_main.specs.declared.command.Form.TheVariants.{Plain, Certified}
+use Rattle.compact_main.specs.declared.options.Options.{Options}
 
 -- the bytes of each word
 abbrev pub texts_of : List (String Global) → List (List ℕ)
@@ -20,28 +23,36 @@ pub record IsNumberTo (greatest : ℕ) (word : List ℕ) (number : ℕ) : Type 0
   pub most : number ≤ greatest
   pub digits : word ≡ decimal number
 
--- the words are options of a drawing, in any order and each at most once: whether it is plain, and
--- the pitch where one is given
-pub data AreOptions : List (List ℕ) → Bool → Option ℕ → Type 0 where
-  no_option : AreOptions [] false None
-  plain_first : (word : List ℕ) (rest : List (List ℕ)) (given : Option ℕ) →
-      word ≡ codes "--plain" → AreOptions rest false given → AreOptions (word ∷ rest) true given
-  pitch_first : (word digits : List ℕ) (rest : List (List ℕ)) (plain : Bool) (pitch : ℕ) →
-      word ≡ codes "--pitch" → IsNumberTo MOST_PITCH digits pitch → AreOptions rest plain None →
-      AreOptions (word ∷ digits ∷ rest) plain (Some pitch)
+-- no option is given
+abbrev pub no_options : Options
+no_options = record { plain = false; pitch = None }
 
--- the options ask for a drawing of this pitch, which is 1 where none is given, with a certificate
--- where it is not to be plain
-abbrev pub AskForDrawing : List (List ℕ) → ℕ → Bool → Type 0
-AskForDrawing options pitch certified =
-    (plain : Bool) × (given : Option ℕ) × AreOptions options plain given
-    × (pitch ≡ unwrap_or given 1) × (certified ≡ not plain)
+-- the words are these options, in any order and each at most once
+pub data AreOptions : List (List ℕ) → Options → Type 0 where
+  no_words : AreOptions [] no_options
+  plain_first : (word : List ℕ) (rest : List (List ℕ)) (options : Options) →
+      word ≡ codes "--plain" → options.plain ≡ false → AreOptions rest options →
+      AreOptions (word ∷ rest) (record options { plain = true })
+  pitch_first : (word digits : List ℕ) (rest : List (List ℕ)) (options : Options) (pitch : ℕ) →
+      word ≡ codes "--pitch" → IsNumberTo MOST_PITCH digits pitch → options.pitch ≡ None →
+      AreOptions rest options →
+      AreOptions (word ∷ digits ∷ rest) (record options { pitch = Some pitch })
+
+-- a drawing is certified unless it is to be plain
+abbrev pub form_of : Options → Form
+form_of options = if options.plain then Plain else Certified
+
+-- the words are options that ask for a drawing of this pitch, 1 if none is given, in this form
+abbrev pub AskForDrawing : List (List ℕ) → ℕ → Form → Type 0
+AskForDrawing words pitch form =
+    (options : Options) × AreOptions words options
+    × (pitch ≡ unwrap_or options.pitch 1) × (form ≡ form_of options)
 
 -- the words ask for this command
 abbrev pub Asks : List (List ℕ) → Command → Type 0
-Asks words (Draw pitch certified) =
+Asks words (Draw pitch form) =
     (options : List (List ℕ)) × (words ≡ codes "draw" ∷ options)
-    × AskForDrawing options pitch certified
+    × AskForDrawing options pitch form
 Asks words Check = words ≡ codes "check" ∷ []
 Asks words Measure = words ≡ codes "measure" ∷ []
 Asks words Verify = words ≡ codes "verify" ∷ []
@@ -52,7 +63,7 @@ Asks words (Sample number) =
 -- the number of the command is within its limits: with its pitch the coordinates of a drawing can
 -- be read again, and a sample has few vertices
 abbrev pub IsWithinLimits : Command → Type 0
-IsWithinLimits (Draw pitch certified) = (1 ≤ pitch) × (pitch ≤ MOST_PITCH)
+IsWithinLimits (Draw pitch form) = (1 ≤ pitch) × (pitch ≤ MOST_PITCH)
 IsWithinLimits Check = Unit {0}
 IsWithinLimits Measure = Unit {0}
 IsWithinLimits Verify = Unit {0}

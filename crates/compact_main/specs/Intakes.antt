@@ -13,7 +13,7 @@ pub data Intake : Type 0 where
   nothing : Intake
 
 abbrev pub intake_of : Command → Intake
-intake_of (Draw pitch certified) = a_text MOST_INPUT_BYTES
+intake_of (Draw pitch form) = a_text MOST_INPUT_BYTES
 intake_of Check = a_text MOST_INPUT_BYTES
 intake_of Measure = a_text MOST_INPUT_BYTES
 intake_of Verify = a_text MOST_BYTES

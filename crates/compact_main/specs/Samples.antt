@@ -5,13 +5,21 @@ use Rattle.std.specs.Prelude.{length, slice_index_or, nat_lt, if◌then◌else�
 use Rattle.std.specs.Fmt.{signed_decimal}
 use Rattle.std.specs.Int.{int_max}
 use Rattle.compact_types.specs.declared.places.Axis.{Axis}
+use Rattle.compact_types.specs.declared.places.Axis.TheVariants.{X, Y}
 use Rattle.compact_types.specs.declared.places.Point.{Point}
 use Rattle.compact_types.specs.declared.places.Places.{Places}
 use Rattle.compact_types.specs.declared.plan.Piece.{Piece}
 use Rattle.compact_types.specs.declared.plan.Plan.{Plan}
+use Rattle.compact_types.specs.declared.plan.Shape.{Shape}
 use Rattle.compact_types.specs.declared.plan.Way.{Way}
 use Rattle.compact_types.specs.declared.plan.Way.TheVariants.{East, High}
+use Rattle.compact_types.specs.Bests.{total_length, IsBest, worth_of}
 use Rattle.compact_types.specs.Lookups.{origin, no_piece, place, along}
+use Rattle.drawing_check.specs.Shapes.{IsShapeOf}
+use Rattle.cert_text.specs.declared.tree.CertNode.{CertNode}
+use Rattle.cert_text.specs.declared.trimming.TheConstants.{MOST_SPLITS}
+use Rattle.cert_text.specs.Accepting.{Accepts}
+use Rattle.cert_text.specs.Trees.{IsShallow}
 use Rattle.compact_main.specs.declared.sample.TheConstants.{HOOK_SPACING}
 use Rattle.compact_main.specs.Summaries.{number_line}
 
@@ -117,3 +125,18 @@ sample_text number plan total width height =
     ++ number_line (codes "width") (signed_decimal width)
     ++ number_line (codes "height") (signed_decimal height)
     ++ codes "proved\n"
+
+-- what is told of the sample drawing of a number, of which there are best places and a certificate
+-- that shows by itself that they are: it is accepted, and no entry lies under too many splits
+pub record IsSampleOutput (number : ℕ) (written : List ℕ) : Type 0 where
+  pub shape : Shape
+  pub places : Places
+  pub sample : IsSample number shape.plan places
+  pub drawing : IsShapeOf shape.plan places shape
+  pub best_places : Places
+  pub best : IsBest total_length shape best_places
+  pub nodes : List CertNode
+  pub accepted : Accepts shape best_places nodes
+  pub shallow : IsShallow MOST_SPLITS nodes
+  pub told : written ≡ sample_text number shape.plan (worth_of total_length shape best_places)
+      (greatest_along X best_places) (greatest_along Y best_places)

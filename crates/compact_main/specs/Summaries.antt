@@ -1,13 +1,9 @@
 -- What a drawing amounts to in numbers, and how they are written.
-use Rattle.std.specs.Prelude.{◌≡◌, ℕ, zero, suc, ◌+◌, List, [], ◌++◌, length, codes, decimal}
+use Rattle.std.specs.Prelude.{ℕ, zero, suc, ◌+◌, List, [], ◌++◌, codes, decimal}
 use Rattle.std.specs.Fmt.{signed_decimal}
-use Rattle.compact_types.specs.declared.places.Axis.TheVariants.{X, Y}
 use Rattle.compact_types.specs.declared.plan.Shape.{Shape}
-use Rattle.compact_types.specs.Lengths.{plain_length_of}
-use Rattle.bars.specs.Lines.{line_count}
-use Rattle.bars.specs.Segments.{segment_count, IsPair}
+use Rattle.bars.specs.Segments.{IsPair}
 use Rattle.shape_graphs.specs.Separation.{IsSeparated}
-use Rattle.compact_main.specs.declared.drawing.Drawing.{Drawing}
 use Rattle.compact_main.specs.declared.summary.Summary.{Summary}
 
 -- exactly k of the numbers below n have P
@@ -26,19 +22,6 @@ pub data IsPairCount (P : ℕ → ℕ → Type 0) : ℕ → ℕ → Type 0 where
 -- them on the same side of each other
 abbrev pub IsSeparatedPair : Shape → ℕ → ℕ → Type 0
 IsSeparatedPair shape s t = IsPair shape s t × IsSeparated shape [] s t
-
--- the numbers are those of the drawing, its length as it was read
-pub record IsSummary (drawing : Drawing) (summary : Summary) : Type 0 where
-  pub vertices : summary.vertices ≡ drawing.reading.plan.vertices
-  pub pieces : summary.pieces ≡ length drawing.reading.plan.pieces
-  pub rows : summary.rows ≡ line_count X drawing.shape
-  pub columns : summary.columns ≡ line_count Y drawing.shape
-  pub bars : summary.bars ≡ segment_count drawing.shape
-  pub pairs : IsPairCount (IsPair drawing.shape) (segment_count drawing.shape) summary.pairs
-  pub separated :
-      IsPairCount (IsSeparatedPair drawing.shape) (segment_count drawing.shape) summary.separated
-  pub thousandths :
-      summary.length ≡ plain_length_of drawing.reading.plan drawing.reading.places
 
 -- a name and the digits of its number, on a line of their own
 abbrev pub number_line : List ℕ → List ℕ → List ℕ

@@ -1,89 +1,89 @@
-//! The drawing of a text with the best places of its shape, and its certificate.
+//! The drawing of a text with the best places of its shape, in the form that is asked for.
 
-ghost use Rattle.std.specs.Prelude.{◌≤◌, length, IfOk, false, true};
-ghost use Rattle.compact_types.specs.Bests.{total_length, IsBest};
+ghost use Rattle.std.specs.Prelude.{◌≤◌, length, IfOk};
 ghost use Rattle.compact_types.specs.Refusals.{IfFault};
-ghost use Rattle.drawing_read.specs.Readings.{IsReading};
-ghost use Rattle.drawing_check.specs.Shapes.{IsShapeOf};
 ghost use Rattle.cert_text.specs.Certificates.{IsPitch};
 ghost use Rattle.cert_text.specs.Loads.{IsCertTree};
-ghost use Rattle.compact_types.specs.declared.limits.TheConstants.{MOST_PITCH};
+ghost use Rattle.compact_main.specs.declared.command.Form.TheVariants as forms;
 ghost use Rattle.compact_main.specs.Commands.{IsWithinLimits};
+ghost use Rattle.compact_main.specs.Drawings.{AreBestPlaces, shape_of};
 ghost use Rattle.compact_main.specs.Intakes.{limit_of};
 ghost use Rattle.compact_main.specs.Outputs.{Draws, DrawsBest, IsCertified, Output, FirstFault};
+ghost use Rattle.compact_main.specs.inner.Found.{IsFound, IsRead};
 
-use crate::best::{best_places, certified_places};
-use crate::command::Command;
+use crate::command::{Command, Form};
 use crate::drawing::{Drawing, input_of};
+use crate::search::{Search, certificate_of};
 use crate::status::Failure;
 use cert_text::{CertTree, print_cert};
-use compact_types::{Items, NoMemory, Places, Refusal};
+use compact_types::{Flows, Items, NoMemory, Places, Refusal};
 use gml_print::{print_tree, with_places};
 use std::alloc::Global;
+use workers::Best;
 
-/// The text of the tree with the best places of its shape, and behind it the certificate where it
-/// is wanted.
-pub(crate) fn draw(
+/// The text's drawing with the best places of its shape, in this form.
+pub(crate) fn draw<X: Search>(
     alloc: Global,
+    search: &X,
     pitch: u32,
-    certified: bool,
+    form: Form,
     bytes: &[u8],
 ) -> Result<Items<u8>, Refusal<Failure>>
-    requires within { length bytes.now ≤ limit_of (Command.Draw pitch certified) }
-    requires pitch { IsWithinLimits (Command.Draw pitch certified) }
-    ensures output { IfOk result (Output (Command.Draw pitch certified) bytes.now) }
-    ensures fault { IfFault result (FirstFault (Command.Draw pitch certified) bytes.now) }
+    requires within { length bytes.now ≤ limit_of (Command.Draw pitch form) }
+    requires pitch { IsWithinLimits (Command.Draw pitch form) }
+    ensures output { IfOk result (Output (Command.Draw pitch form) bytes.now) }
+    ensures fault { IfFault result (FirstFault (Command.Draw pitch form) bytes.now) }
 {
-    let drawing = input_of(alloc, Command::Draw { pitch, certified }, bytes)?;
-    Ok(draw_again(alloc, drawing, pitch, certified)?)
+    let drawing = input_of(alloc, Command::Draw { pitch, form }, bytes)?;
+    let best = best_of(alloc, search, &drawing)?;
+    Ok(write(alloc, drawing, &best, pitch, form)?)
 }
 
-/// The text of the drawing with the best places of its shape, and behind it the certificate where
-/// it is wanted.
-fn draw_again(
+/// The best key of the drawing's shape, and the board that shows it.
+fn best_of<X: Search>(alloc: Global, search: &X, drawing: &Drawing) -> Result<Best<Flows>, NoMemory>
+    requires { IsRead drawing.now }
+    ensures { IfOk result (IsFound (shape_of drawing.now)) }
+{
+    search.best(alloc, &drawing.bars, &drawing.reading.places)
+}
+
+/// The drawing with the best places, in this form.
+fn write(
     alloc: Global,
     drawing: Drawing,
+    best: &Best<Flows>,
     pitch: u32,
-    certified: bool,
+    form: Form,
 ) -> Result<Items<u8>, NoMemory>
-    requires read { IsReading drawing.tree drawing.reading }
-    requires shape { IsShapeOf drawing.reading.plan drawing.reading.places drawing.shape }
-    requires pitch { IsWithinLimits (Command.Draw pitch certified) }
-    ensures { IfOk result (Draws certified drawing pitch) }
+    requires read { IsRead drawing }
+    requires found { IsFound (shape_of drawing) best.now }
+    requires pitch { IsPitch pitch }
+    ensures { IfOk result (Draws form drawing pitch) }
 {
-    if certified {
-        draw_certified(alloc, drawing, pitch)
-    } else {
-        draw_plain(alloc, drawing, pitch)
+    match form {
+        Form::Plain => write_plain(alloc, drawing, &best.key.places, pitch),
+        Form::Certified => write_certified(alloc, drawing, best, pitch),
     }
 }
 
-/// The drawing with the best places of its shape.
-fn draw_plain(alloc: Global, drawing: Drawing, pitch: u32) -> Result<Items<u8>, NoMemory>
-    requires read { IsReading drawing.tree drawing.reading }
-    requires shape { IsShapeOf drawing.reading.plan drawing.reading.places drawing.shape }
-    requires some_pitch { 1 ≤ pitch }
-    requires most_pitch { pitch ≤ MOST_PITCH }
-    ensures { IfOk result (Draws false drawing pitch) }
+/// The drawing with the best places, followed by its certificate.
+fn write_certified(
+    alloc: Global,
+    drawing: Drawing,
+    best: &Best<Flows>,
+    pitch: u32,
+) -> Result<Items<u8>, NoMemory>
+    requires read { IsRead drawing }
+    requires found { IsFound (shape_of drawing) best.now }
+    requires pitch { IsPitch pitch }
+    ensures { IfOk result (Draws forms.Certified drawing pitch) }
 {
-    let places = best_places(alloc, &drawing.shape, &drawing.reading.places)?;
-    drawn(alloc, drawing, &places, pitch)
+    let tree = certificate_of(alloc, &drawing.bars, best)?;
+    let text = print(alloc, drawing, &best.key.places, pitch)?;
+    with_certificate(alloc, text, &tree, pitch)
 }
 
-/// The drawing with the best places of its shape, and its certificate behind it.
-fn draw_certified(alloc: Global, drawing: Drawing, pitch: u32) -> Result<Items<u8>, NoMemory>
-    requires read { IsReading drawing.tree drawing.reading }
-    requires shape { IsShapeOf drawing.reading.plan drawing.reading.places drawing.shape }
-    requires some_pitch { 1 ≤ pitch }
-    requires most_pitch { pitch ≤ MOST_PITCH }
-    ensures { IfOk result (Draws true drawing pitch) }
-{
-    let best = certified_places(alloc, &drawing.shape, &drawing.reading.places)?;
-    let text = drawn(alloc, drawing, &best.places, pitch)?;
-    with_certificate(alloc, text, &best.tree, pitch)
-}
-
-/// The text with the certificate behind it.
+/// The text with the certificate after it.
 fn with_certificate(
     alloc: Global,
     mut text: Items<u8>,
@@ -99,19 +99,32 @@ fn with_certificate(
     Ok(text)
 }
 
-/// The tree of the drawing, printed with the best places of its shape and so many units between
-/// neighbouring lines of the grid.
-fn drawn(
+/// The drawing with the best places, alone.
+fn write_plain(
     alloc: Global,
     drawing: Drawing,
     places: &Places,
     pitch: u32,
 ) -> Result<Items<u8>, NoMemory>
-    requires read { IsReading drawing.tree drawing.reading }
-    requires shape { IsShapeOf drawing.reading.plan drawing.reading.places drawing.shape }
-    requires best { IsBest total_length drawing.shape places.now }
-    requires some_pitch { 1 ≤ pitch }
-    requires most_pitch { pitch ≤ MOST_PITCH }
+    requires read { IsRead drawing }
+    requires best { AreBestPlaces drawing places.now }
+    requires pitch { IsPitch pitch }
+    ensures { IfOk result (Draws forms.Plain drawing pitch) }
+{
+    print(alloc, drawing, places, pitch)
+}
+
+/// The tree of the drawing, printed with its best places and so many units between neighbouring
+/// lines of the grid.
+fn print(
+    alloc: Global,
+    drawing: Drawing,
+    places: &Places,
+    pitch: u32,
+) -> Result<Items<u8>, NoMemory>
+    requires read { IsRead drawing }
+    requires best { AreBestPlaces drawing places.now }
+    requires pitch { IsPitch pitch }
     ensures { IfOk result (DrawsBest drawing pitch places.now) }
 {
     let Drawing { tree, reading, .. } = drawing;

@@ -4,24 +4,26 @@ ghost use Rattle.std.specs.Prelude.{◌≤◌, length, IfOk};
 ghost use Rattle.compact_types.specs.Refusals.{Decides, IfFault};
 ghost use Rattle.gml_text.specs.declared.limits.TheConstants.{MOST_BYTES};
 ghost use Rattle.compact_main.specs.Drawings.{HoldsDrawing, FirstTextFault};
-ghost use Rattle.compact_main.specs.Intakes.{intake_of, limit_of};
+ghost use Rattle.compact_main.specs.Intakes.{limit_of};
 ghost use Rattle.compact_main.specs.Outputs.{IsInput, FirstFault};
-ghost use Rattle.compact_main.specs.inner.Readings.{IsText};
+ghost use Rattle.compact_main.specs.inner.Readings.{ReadsDrawing};
 
 use crate::command::Command;
 use crate::status::{Failure, Why};
-use compact_types::{Refusal, Shape};
+use bars::{Bars, bars_of};
+use compact_types::Refusal;
 use drawing_check::check;
 use drawing_read::{Reading, read_drawing};
 use gml_text::{Tree, read_tree};
 use std::alloc::Global;
 
-/// The drawing that a text holds: its tree, what is read of it, and its shape.
+/// The drawing that a text holds: its tree, what is read of it, and its shape, as the tables of its
+/// segments. Contracts see `bars` as the shape.
 #[derive(Drop)]
 pub struct Drawing {
     pub tree: Tree,
     pub reading: Reading,
-    pub shape: Shape,
+    pub bars: Bars,
 }
 
 /// The drawing that a command is given, or why it refuses the text.
@@ -30,9 +32,9 @@ pub(crate) fn input_of(
     command: Command,
     bytes: &[u8],
 ) -> Result<Drawing, Refusal<Failure>>
-    requires text { IsText (intake_of command) }
+    requires drawing { ReadsDrawing command }
     requires within { length bytes.now ≤ limit_of command }
-    ensures input { IfOk result (IsInput (limit_of command) bytes.now) }
+    ensures input { IfOk result (IsInput command bytes.now) }
     ensures fault { IfFault result (FirstFault command bytes.now) }
 {
     match drawing_of(alloc, bytes) {
@@ -59,9 +61,10 @@ fn drawing_of(alloc: Global, bytes: &[u8]) -> Result<Drawing, Refusal<Why>>
         Ok(shape) => shape,
         Err(refusal) => return Err(refusal.map(Why::Shape)),
     };
+    let bars = bars_of(alloc, &shape)?;
     Ok(Drawing {
         tree,
         reading,
-        shape,
+        bars,
     })
 }

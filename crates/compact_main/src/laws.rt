@@ -7,16 +7,23 @@ ghost use Rattle.compact_types.specs.declared.plan.Shape.{Shape};
 ghost use Rattle.compact_types.specs.Bests.{IsBest};
 ghost use Rattle.compact_types.specs.Bests.Objective.{total_length};
 ghost use Rattle.compact_types.specs.Refusals.{HasOneAnswer};
-ghost use Rattle.cert_text.specs.declared.tree.CertNode.{CertNode};
+ghost use Rattle.drawing_check.specs.Shapes.{IsShapeOf};
 ghost use Rattle.bars.specs.Lines.{count_to};
 ghost use Rattle.bars.specs.Segments.{IsPair};
+ghost use Rattle.cert_text.specs.declared.tree.CertNode.{CertNode};
+ghost use Rattle.cert_text.specs.declared.trimming.TheConstants.{MOST_SPLITS};
+ghost use Rattle.cert_text.specs.Accepting.{Accepts};
+ghost use Rattle.cert_text.specs.Trees.{IsShallow};
 ghost use Rattle.compact_main.specs.Commands.{Asks, IsWithinLimits};
 ghost use Rattle.compact_main.specs.Drawings.{HoldsDrawing, FirstTextFault};
+ghost use Rattle.compact_main.specs.Drawings.{AreBestPlaces, IsAccepted};
 ghost use Rattle.compact_main.specs.Intakes.{limit_of};
 ghost use Rattle.compact_main.specs.Outputs.{Output, IsProved, IsValid, FirstFault};
 ghost use Rattle.compact_main.specs.Outputs.{IsCertified, IsUncertified};
+ghost use Rattle.compact_main.specs.Samples.{IsSample};
 ghost use Rattle.compact_main.specs.Summaries.{IsCount, IsPairCount, IsSeparatedPair};
 ghost use Rattle.compact_main.specs.declared.command.Command.{Command};
+ghost use Rattle.compact_main.specs.declared.command.Form.TheVariants as forms;
 ghost use Rattle.compact_main.specs.declared.drawing.Drawing.{Drawing};
 
 /// A law: words ask for one command at most.
@@ -30,15 +37,15 @@ pub fn texts_have_one_answer()
 {}
 
 /// A law: a text that a command accepts has no first fault, and any other has exactly one: it is
-/// refused, or, where it was to be verified, not proved.
+/// refused, or, if it was to be verified, not proved.
 pub fn texts_are_accepted_or_refused()
     ensures { (command : Command) (text : List ℕ) →
         HasOneAnswer (λ (accepted : Unit {0}). IsValid command text) (FirstFault command text) }
 {}
 
 /// A law: a text for which a command has an output is one that it accepts; and each text that it
-/// accepts has an output, where no certificate is to be written. That a best drawing has a
-/// certificate is shown by the search, which makes one where memory allows.
+/// accepts has an output, if no certificate is to be made for it. That a best drawing has a
+/// certificate is shown by the search, which makes one if memory allows.
 pub fn accepted_texts_have_an_output()
     ensures accepted { (command : Command) (text written : List ℕ) →
         Output command text written → IsValid command text }
@@ -50,10 +57,10 @@ pub fn accepted_texts_have_an_output()
 /// drawing is, which is what is written without a certificate.
 pub fn outputs_are_functions_of_the_text()
     ensures drawn { (pitch : ℕ) (text a b : List ℕ) →
-        Output (Command.Draw pitch false) text a → Output (Command.Draw pitch false) text b →
+        Output (Command.Draw pitch forms.Plain) text a → Output (Command.Draw pitch forms.Plain) text b →
         a ≡ b }
-    ensures certified { (pitch : ℕ) (text a : List ℕ) → Output (Command.Draw pitch true) text a →
-        (front : List ℕ) × Output (Command.Draw pitch false) text front
+    ensures certified { (pitch : ℕ) (text a : List ℕ) → Output (Command.Draw pitch forms.Certified) text a →
+        (front : List ℕ) × Output (Command.Draw pitch forms.Plain) text front
         × ((nodes : List CertNode) × IsCertified pitch front nodes a) }
     ensures counted { (text a b : List ℕ) →
         Output Command.Check text a → Output Command.Check text b → a ≡ b }
@@ -65,11 +72,11 @@ pub fn outputs_are_functions_of_the_text()
         Output (Command.Sample number) text a → Output (Command.Sample number) text b → a ≡ b }
 {}
 
-/// A law: what a drawing with its certificate is written as is proved, where it is no longer than
-/// what is verified.
+/// A law: the text of a drawing with its certificate is proved, if it has no more bytes than a text
+/// that is verified may have.
 pub fn what_draw_writes_is_proved()
-    ensures { (pitch : ℕ) (text written : List ℕ) → IsWithinLimits (Command.Draw pitch true) →
-        Output (Command.Draw pitch true) text written → length written ≤ limit_of Command.Verify →
+    ensures { (pitch : ℕ) (text written : List ℕ) → IsWithinLimits (Command.Draw pitch forms.Certified) →
+        Output (Command.Draw pitch forms.Certified) text written → length written ≤ limit_of Command.Verify →
         IsValid Command.Verify written }
 {}
 
@@ -77,7 +84,20 @@ pub fn what_draw_writes_is_proved()
 /// else to see that.
 pub fn proved_drawings_are_best()
     ensures { (text : List ℕ) (drawing : Drawing) (places : Places) →
-        IsProved text drawing places → IsBest total_length drawing.shape places }
+        IsProved text drawing places → AreBestPlaces drawing places }
+{}
+
+/// A law: what is written with a certificate shows by itself that it is the best: the certificate is
+/// accepted for the places, and no entry of it lies under too many splits. That is all that it takes
+/// of a drawing that a text holds, and of the sample of a number.
+pub fn certificates_show_the_best()
+    ensures drawn { (text : List ℕ) (drawing : Drawing) (places : Places) (nodes : List CertNode) →
+        HoldsDrawing text drawing → IsAccepted drawing places nodes →
+        IsShallow MOST_SPLITS nodes → AreBestPlaces drawing places }
+    ensures sampled { (number : ℕ) (shape : Shape) (places best : Places) (nodes : List CertNode) →
+        IsWithinLimits (Command.Sample number) → IsSample number shape.plan places →
+        IsShapeOf shape.plan places shape → Accepts shape best nodes →
+        IsShallow MOST_SPLITS nodes → IsBest total_length shape best }
 {}
 
 /// A law: a count is one number. Of the numbers below n that pass a test it is the one found by

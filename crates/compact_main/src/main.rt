@@ -7,32 +7,36 @@
 //! written is a function of the text.
 #![tactic(auto)]
 
-mod best;
 mod command;
 mod draw;
 mod drawing;
 mod laws;
 mod note;
 mod notify;
+mod options;
 mod output;
 mod pairs;
-mod room;
 mod run;
 mod sample;
 mod sampled;
+mod search;
 mod status;
 mod summary;
+#[cfg(test)]
+mod tests;
 mod verify;
+mod words;
 
-pub use command::{Command, MOST_INPUT_BYTES};
+pub use command::{Command, Form, MOST_INPUT_BYTES};
 use io_ends::{StdSink, StdSource};
 pub use laws::{
-    accepted_texts_have_an_output, counts_are_exact, outputs_are_functions_of_the_text,
-    proved_drawings_are_best, texts_are_accepted_or_refused, texts_have_one_answer,
-    what_draw_writes_is_proved, words_ask_for_one_command,
+    accepted_texts_have_an_output, certificates_show_the_best, counts_are_exact,
+    outputs_are_functions_of_the_text, proved_drawings_are_best, texts_are_accepted_or_refused,
+    texts_have_one_answer, what_draw_writes_is_proved, words_ask_for_one_command,
 };
 use notify::notify;
 pub use run::run_alone;
+pub use search::{Alone, Search};
 pub use status::{Failure, Status, Unproved, Why};
 use std::process::ExitCode;
 use std::{env, io};

@@ -1,8 +1,10 @@
 //! A line for the user that takes no memory.
 
-ghost use Rattle.std.specs.Prelude.{◌≡◌, []};
+ghost use Rattle.std.specs.Prelude.{◌≡◌, ◌+◌, ◌≤◌, [], ◌++◌, length, codes, decimal};
+ghost use Rattle.compact_main.specs.Notes.{around};
 ghost use Rattle.compact_main.specs.inner.Rooms.{IsAdded};
 
+use itoa::{Buffer, Integer};
 use std::marker::Model;
 
 /// The most bytes of a note. Every line for the user fits.
@@ -45,6 +47,37 @@ impl Note {
         let end = self.length + count;
         self.bytes[self.length..end].copy_from_slice(&text[..count]);
         self.length = end;
+    }
+
+    /// Adds a text and the offset that it speaks of.
+    pub(crate) fn push_at(&mut self, text: &[u8], at: u32)
+        ensures added { IsAdded self.old self.new (text.now ++ codes " at byte " ++ decimal at) }
+        ensures short { length (text.now ++ codes " at byte " ++ decimal at)
+            ≤ length text.now + 19 }
+    {
+        self.push(text);
+        self.push(b" at byte ");
+        self.push_number(at);
+    }
+
+    /// Adds a number between two texts.
+    pub(crate) fn push_around(&mut self, front: &[u8], number: u32, back: &[u8])
+        ensures added { IsAdded self.old self.new (around front.now number back.now) }
+        ensures short { length (around front.now number back.now)
+            ≤ length front.now + 10 + length back.now }
+    {
+        self.push(front);
+        self.push_number(number);
+        self.push(back);
+    }
+
+    /// Adds the digits of `number`.
+    pub(crate) fn push_number<I: Integer>(&mut self, number: I)
+        ensures added { IsAdded self.old self.new (I.text number) }
+        ensures short { length (I.text number) ≤ I.MAX_STR_LEN }
+    {
+        let mut buffer = Buffer::new();
+        self.push(buffer.format(number).as_bytes());
     }
 
     /// The text of the note.

@@ -1,6 +1,7 @@
-//! What the user is told of a run that was not done.
+//! The line for a run that was not done. Each part says how long it is at most, so that every line
+//! fits into a note.
 
-ghost use Rattle.std.specs.Prelude.{◌≡◌, ◌++◌, codes, decimal};
+ghost use Rattle.std.specs.Prelude.{◌≡◌, ◌+◌, ◌≤◌, ◌++◌, length, codes, decimal};
 ghost use Rattle.compact_main.specs.Notes.{note_text, status_text, why_text, IsNoted};
 ghost use Rattle.compact_main.specs.Notes.{kind_text, cause_text, draw_text, shape_text};
 ghost use Rattle.compact_main.specs.Notes.{pair_text, meeting_text, around};
@@ -9,7 +10,6 @@ ghost use Rattle.cert_text.specs.Texts.{axis_text};
 ghost use Rattle.compact_main.specs.inner.Rooms.{IsAdded};
 
 use crate::note::Note;
-use crate::room::line_fits;
 use crate::status::{Status, Unproved, Why};
 use cert_check::CheckFault;
 use cert_text::CertKind;
@@ -18,7 +18,6 @@ use drawing_check::ShapeFault;
 use drawing_read::DrawFault;
 use gml_text::{GmlKind, NumberFault};
 use io_ends::{Sink, write_all};
-use itoa::{Buffer, Integer};
 
 /// Tells the user how a run ended that was not done: one line, made without memory. Where the text
 /// was too long the line names the limit. A fault of `notes` changes nothing but its count.
@@ -34,15 +33,16 @@ pub(crate) fn notify<N: Sink>(notes: &mut N, limit: usize, status: Status)
 fn note_of(limit: usize, status: Status) -> Note
     ensures { result ≡ note_text limit status }
 {
-    line_fits(limit, status);
     let mut note = Note::new();
     push_status(&mut note, limit, status);
     note.push(b"\n");
     note
 }
 
+/// The line without its line feed.
 fn push_status(note: &mut Note, limit: usize, status: Status)
-    ensures { IsAdded note.old note.new (status_text limit status) }
+    ensures added { IsAdded note.old note.new (status_text limit status) }
+    ensures short { length (status_text limit status) ≤ 200 }
 {
     match status {
         Status::Done => note.push(b""),
@@ -66,11 +66,12 @@ fn push_status(note: &mut Note, limit: usize, status: Status)
 
 /// Why a text is refused.
 fn push_why(note: &mut Note, limit: usize, why: Why)
-    ensures { IsAdded note.old note.new (why_text limit why) }
+    ensures added { IsAdded note.old note.new (why_text limit why) }
+    ensures short { length (why_text limit why) ≤ 150 }
 {
     match why {
         Why::TooLong => push_too_long(note, limit),
-        Why::Gml(fault) => push_at(note, kind_of(fault.kind), fault.at),
+        Why::Gml(fault) => note.push_at(kind_of(fault.kind), fault.at),
         Why::Draw(fault) => push_draw_fault(note, fault),
         Why::Shape(fault) => push_shape_fault(note, fault),
     }
@@ -78,16 +79,19 @@ fn push_why(note: &mut Note, limit: usize, why: Why)
 
 /// A text has more bytes than the limit.
 fn push_too_long(note: &mut Note, limit: usize)
-    ensures { IsAdded note.old note.new (around (codes "more than ") limit (codes " bytes")) }
+    ensures added { IsAdded note.old note.new
+        (around (codes "more than ") limit (codes " bytes")) }
+    ensures short { length (around (codes "more than ") limit (codes " bytes")) ≤ 40 }
 {
     note.push(b"more than ");
-    push_number(note, limit);
+    note.push_number(limit);
     note.push(b" bytes");
 }
 
 /// What is wrong with a text of which this fault is the first.
 fn kind_of(kind: GmlKind) -> &'static [u8]
-    ensures { result.now ≡ kind_text kind }
+    ensures is { result.now ≡ kind_text kind }
+    ensures short { length (kind_text kind) ≤ 20 }
 {
     match kind {
         GmlKind::BadKey => b"bad key",
@@ -102,31 +106,33 @@ fn kind_of(kind: GmlKind) -> &'static [u8]
 
 /// Why a tree is no drawing.
 fn push_draw_fault(note: &mut Note, fault: DrawFault)
-    ensures { IsAdded note.old note.new (draw_text fault) }
+    ensures added { IsAdded note.old note.new (draw_text fault) }
+    ensures short { length (draw_text fault) ≤ 80 }
 {
     match fault {
         DrawFault::NoGraph => note.push(b"no graph"),
         DrawFault::TwoGraphs => note.push(b"two graphs"),
         DrawFault::Empty => note.push(b"no node"),
-        DrawFault::NoId(node) => push_around(note, b"node ", node, b" has no id"),
-        DrawFault::BadId(node) => push_around(note, b"node ", node, b" has a bad id"),
-        DrawFault::RepeatedId(node) => push_around(note, b"node ", node, b" repeats an id"),
-        DrawFault::NoPlace(node) => push_around(note, b"node ", node, b" has no place"),
-        DrawFault::BadNumber { at, cause } => push_at(note, cause_of(cause), at),
-        DrawFault::NoEnd(edge) => push_around(note, b"edge ", edge, b" lacks an end"),
-        DrawFault::UnknownEnd(edge) => push_around(note, b"edge ", edge, b" names no node"),
+        DrawFault::NoId(node) => note.push_around(b"node ", node, b" has no id"),
+        DrawFault::BadId(node) => note.push_around(b"node ", node, b" has a bad id"),
+        DrawFault::RepeatedId(node) => note.push_around(b"node ", node, b" repeats an id"),
+        DrawFault::NoPlace(node) => note.push_around(b"node ", node, b" has no place"),
+        DrawFault::BadNumber { at, cause } => note.push_at(cause_of(cause), at),
+        DrawFault::NoEnd(edge) => note.push_around(b"edge ", edge, b" lacks an end"),
+        DrawFault::UnknownEnd(edge) => note.push_around(b"edge ", edge, b" names no node"),
         DrawFault::BadPoint { edge, point } => {
-            push_around(note, b"edge ", edge, b" has a bad point ");
-            push_number(note, point);
+            note.push_around(b"edge ", edge, b" has a bad point ");
+            note.push_number(point);
         }
-        DrawFault::TooManyVertices(count) => push_around(note, b"", count, b" vertices"),
-        DrawFault::TooManyPieces(count) => push_around(note, b"", count, b" pieces"),
+        DrawFault::TooManyVertices(count) => note.push_around(b"", count, b" vertices"),
+        DrawFault::TooManyPieces(count) => note.push_around(b"", count, b" pieces"),
     }
 }
 
 /// Why a number is no coordinate.
 fn cause_of(cause: NumberFault) -> &'static [u8]
-    ensures { result.now ≡ cause_text cause }
+    ensures is { result.now ≡ cause_text cause }
+    ensures short { length (cause_text cause) ≤ 20 }
 {
     match cause {
         NumberFault::TooFine => b"number too fine",
@@ -136,15 +142,16 @@ fn cause_of(cause: NumberFault) -> &'static [u8]
 
 /// Why places are no drawing.
 fn push_shape_fault(note: &mut Note, fault: ShapeFault)
-    ensures { IsAdded note.old note.new (shape_text fault) }
+    ensures added { IsAdded note.old note.new (shape_text fault) }
+    ensures short { length (shape_text fault) ≤ 120 }
 {
     match fault {
         ShapeFault::ZeroPiece(piece) => {
-            push_around(note, b"piece ", piece, b" has no length");
+            note.push_around(b"piece ", piece, b" has no length");
         }
-        ShapeFault::Slanted(piece) => push_around(note, b"piece ", piece, b" is slanted"),
+        ShapeFault::Slanted(piece) => note.push_around(b"piece ", piece, b" is slanted"),
         ShapeFault::Disconnected(vertex) => {
-            push_around(note, b"vertex ", vertex, b" is not joined");
+            note.push_around(b"vertex ", vertex, b" is not joined");
         }
         ShapeFault::Meeting { p, q, x, y } => push_meeting(note, p, q, x, y),
     }
@@ -152,12 +159,13 @@ fn push_shape_fault(note: &mut Note, fault: ShapeFault)
 
 /// Why a text is not proved.
 fn push_unproved(note: &mut Note, unproved: Unproved)
-    ensures { IsAdded note.old note.new (unproved_text unproved) }
+    ensures added { IsAdded note.old note.new (unproved_text unproved) }
+    ensures short { length (unproved_text unproved) ≤ 120 }
 {
     match unproved {
         Unproved::Cert(fault) => push_cert_fault(note, fault.line, fault.kind),
         Unproved::NotWhole(vertex) => {
-            push_around(note, b"vertex ", vertex, b" is not on the grid");
+            note.push_around(b"vertex ", vertex, b" is not on the grid");
         }
         Unproved::Check(fault) => push_check_fault(note, fault),
     }
@@ -165,19 +173,21 @@ fn push_unproved(note: &mut Note, unproved: Unproved)
 
 /// What is wrong with the line of a certificate.
 fn push_cert_fault(note: &mut Note, line: u32, kind: CertKind)
-    ensures { IsAdded note.old note.new (cert_kind_text line kind) }
+    ensures added { IsAdded note.old note.new (cert_kind_text line kind) }
+    ensures short { length (cert_kind_text line kind) ≤ 60 }
 {
     match kind {
         CertKind::NoCertificate => note.push(b"no certificate"),
-        CertKind::BadLine => push_around(note, b"line ", line, b" is bad"),
-        CertKind::MissingBranch => push_around(note, b"line ", line, b" lacks a branch"),
-        CertKind::TrailingLine => push_around(note, b"line ", line, b" is too many"),
+        CertKind::BadLine => note.push_around(b"line ", line, b" is bad"),
+        CertKind::MissingBranch => note.push_around(b"line ", line, b" lacks a branch"),
+        CertKind::TrailingLine => note.push_around(b"line ", line, b" is too many"),
     }
 }
 
 /// Why a certificate does not show that its drawing is the best.
 fn push_check_fault(note: &mut Note, fault: CheckFault)
-    ensures { IsAdded note.old note.new (check_text fault) }
+    ensures added { IsAdded note.old note.new (check_text fault) }
+    ensures short { length (check_text fault) ≤ 100 }
 {
     match fault {
         CheckFault::NotFromZero => note.push(b"not from zero"),
@@ -186,13 +196,13 @@ fn push_check_fault(note: &mut Note, fault: CheckFault)
             push_entry(note, entry, b" is not balanced at ");
             note.push(name_of(axis));
             note.push(b" node ");
-            push_number(note, node);
+            note.push_number(node);
         }
         CheckFault::WeakBound { entry, .. } => push_entry(note, entry, b" has too weak a bound"),
         CheckFault::NotACycle { entry, .. } => push_entry(note, entry, b" is not a cycle"),
         CheckFault::NoArc { entry, axis, arc } => {
             push_entry(note, entry, b" has no arc ");
-            push_number(note, arc);
+            note.push_number(arc);
             note.push(b" in ");
             note.push(name_of(axis));
         }
@@ -201,7 +211,8 @@ fn push_check_fault(note: &mut Note, fault: CheckFault)
 
 /// The name of the axis.
 fn name_of(axis: Axis) -> &'static [u8]
-    ensures { result.now ≡ axis_text axis }
+    ensures is { result.now ≡ axis_text axis }
+    ensures short { length (axis_text axis) ≤ 1 }
 {
     match axis {
         Axis::X => b"x",
@@ -211,47 +222,23 @@ fn name_of(axis: Axis) -> &'static [u8]
 
 /// Adds an entry of a certificate by its number, and what is wrong with it.
 fn push_entry(note: &mut Note, entry: u64, wrong: &[u8])
-    ensures { IsAdded note.old note.new (entry_text entry wrong.now) }
+    ensures added { IsAdded note.old note.new (entry_text entry wrong.now) }
+    ensures short { length (entry_text entry wrong.now) ≤ 26 + length wrong.now }
 {
     note.push(b"entry ");
-    push_number(note, entry);
+    note.push_number(entry);
     note.push(wrong);
 }
 
 /// Adds two pieces by their numbers, and where they meet.
 fn push_meeting(note: &mut Note, p: u32, q: u32, x: i64, y: i64)
-    ensures { IsAdded note.old note.new (pair_text p q ++ meeting_text x y) }
+    ensures added { IsAdded note.old note.new (pair_text p q ++ meeting_text x y) }
+    ensures short { length (pair_text p q ++ meeting_text x y) ≤ 100 }
 {
-    push_around(note, b"pieces ", p, b" and ");
-    push_number(note, q);
+    note.push_around(b"pieces ", p, b" and ");
+    note.push_number(q);
     note.push(b" meet at ");
-    push_number(note, x);
+    note.push_number(x);
     note.push(b" ");
-    push_number(note, y);
-}
-
-/// Adds a text and the offset that it speaks of.
-fn push_at(note: &mut Note, text: &[u8], at: u32)
-    ensures { IsAdded note.old note.new (text.now ++ codes " at byte " ++ decimal at) }
-{
-    note.push(text);
-    note.push(b" at byte ");
-    push_number(note, at);
-}
-
-/// Adds a number between two texts.
-fn push_around(note: &mut Note, front: &[u8], number: u32, back: &[u8])
-    ensures { IsAdded note.old note.new (around front.now number back.now) }
-{
-    note.push(front);
-    push_number(note, number);
-    note.push(back);
-}
-
-/// Adds the digits of `number`.
-fn push_number<I: Integer>(note: &mut Note, number: I)
-    ensures { IsAdded note.old note.new (I.text number) }
-{
-    let mut buffer = Buffer::new();
-    note.push(buffer.format(number).as_bytes());
+    note.push_number(y);
 }

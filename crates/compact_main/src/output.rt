@@ -9,18 +9,21 @@ ghost use Rattle.compact_main.specs.Outputs.{Output, FirstFault};
 
 use crate::command::Command;
 use crate::draw::draw;
-use crate::drawing::input_of;
+use crate::drawing::{Drawing, input_of};
 use crate::sampled::draw_sample;
+use crate::search::Search;
 use crate::status::Failure;
 use crate::summary::{summary_of, summary_text};
 use crate::verify::verify;
-use compact_types::{Items, NoMemory, Plan, Refusal};
+use compact_types::{Items, NoMemory, Refusal};
 use itoa::Buffer;
 use std::alloc::Global;
 
-/// What the command writes for a text, or why it has no answer for it.
-pub(crate) fn answer(
+/// What the command writes for a text, or why it has no answer for it. Best places are found by
+/// this search.
+pub(crate) fn answer<X: Search>(
     alloc: Global,
+    search: &X,
     command: Command,
     bytes: &[u8],
 ) -> Result<Items<u8>, Refusal<Failure>>
@@ -30,11 +33,11 @@ pub(crate) fn answer(
     ensures fault { IfFault result (FirstFault command bytes.now) }
 {
     match command {
-        Command::Draw { pitch, certified } => draw(alloc, pitch, certified, bytes),
+        Command::Draw { pitch, form } => draw(alloc, search, pitch, form, bytes),
         Command::Check => count(alloc, bytes),
         Command::Measure => measure(alloc, bytes),
         Command::Verify => verify(alloc, bytes),
-        Command::Sample { number } => Ok(draw_sample(alloc, number)?),
+        Command::Sample { number } => Ok(draw_sample(alloc, search, number)?),
     }
 }
 
@@ -45,13 +48,14 @@ fn count(alloc: Global, bytes: &[u8]) -> Result<Items<u8>, Refusal<Failure>>
     ensures fault { IfFault result (FirstFault Command.Check bytes.now) }
 {
     let drawing = input_of(alloc, Command::Check, bytes)?;
-    Ok(count_line(alloc, &drawing.reading.plan)?)
+    Ok(count_line(alloc, &drawing)?)
 }
 
-/// The line that says how many vertices and pieces the plan has.
-fn count_line(alloc: Global, plan: &Plan) -> Result<Items<u8>, NoMemory>
-    ensures { IfOk result (λ line. line ≡ outputs.count_line plan.now) }
+/// The line that says how many vertices and pieces the drawing has.
+fn count_line(alloc: Global, drawing: &Drawing) -> Result<Items<u8>, NoMemory>
+    ensures { IfOk result (λ line. line ≡ outputs.count_line drawing.now) }
 {
+    let plan = &drawing.reading.plan;
     let mut buffer = Buffer::new();
     let mut line = Items::from_slice(alloc, b"drawing: ")?;
     line.extend_from_slice(buffer.format(plan.vertices).as_bytes())?;

@@ -9,20 +9,21 @@ ghost use Rattle.compact_main.specs.Runs.{IsRun};
 ghost use Rattle.compact_main.specs.inner.Readings.{IsGivenUp};
 ghost use Rattle.compact_main.specs.inner.Writes.{IsWritten};
 
-use crate::command::{Command, command_of};
+use crate::command::Command;
 use crate::notify::notify;
 use crate::output::answer;
+use crate::search::{Alone, Search};
 use crate::status::{Status, Why};
+use crate::words::request_of;
 use compact_types::{Items, Refusal};
 use io_ends::{ReadEnd, Sink, Source, read_all, write_all};
 use std::alloc::Global;
 
 /// Does what the words ask for, with one worker: reads what the command reads from `source`, writes
-/// what it makes of that to `out`, and answers how that ended. It always returns.
+/// what it makes of that to `out`, and returns how that ended. It always returns.
 ///
-/// All memory is taken before the first byte is written. Where the status is not Done `notes` gets
+/// All memory is taken before the first byte is written. If the status is not Done, `notes` gets
 /// one line that says why, made without memory; a fault of `notes` changes no status.
-#[tactic(auto, using(crate::proofs::WordLists::number_asked))]
 pub fn run_alone<S: Source, K: Sink, N: Sink>(
     alloc: Global,
     words: &[String],
@@ -38,11 +39,33 @@ pub fn run_alone<S: Source, K: Sink, N: Sink>(
         N.held N.faults notes.old notes.new
         result }
 {
-    let Some(command) = command_of(words) else {
+    run_with(alloc, &Alone, words, source, out, notes)
+}
+
+/// Does what the words ask for, as `run_alone` does, with this search.
+#[tactic(auto, using(crate::proofs::CommandWords::number_asked))]
+fn run_with<X: Search, S: Source, K: Sink, N: Sink>(
+    alloc: Global,
+    search: &X,
+    words: &[String],
+    source: &mut S,
+    out: &mut K,
+    notes: &mut N,
+) -> Status
+    ensures run { IsRun (Asks (texts_of words.now))
+        S.left S.faults source.old source.new
+        K.held K.faults out.old out.new
+        result }
+    ensures told { IsTold (Asks (texts_of words.now))
+        N.held N.faults notes.old notes.new
+        result }
+{
+    let Some(request) = request_of(words) else {
         notify(notes, 0, Status::BadWords);
         return Status::BadWords;
     };
-    let status = run_command(alloc, command, source, out);
+    let command = request.command;
+    let status = run_command(alloc, search, command, source, out);
     if status != Status::Done {
         notify(notes, command.limit(), status);
     }
@@ -50,8 +73,9 @@ pub fn run_alone<S: Source, K: Sink, N: Sink>(
 }
 
 /// Does what the command asks for.
-fn run_command<S: Source, K: Sink>(
+fn run_command<X: Search, S: Source, K: Sink>(
     alloc: Global,
+    search: &X,
     command: Command,
     source: &mut S,
     out: &mut K,
@@ -68,7 +92,7 @@ fn run_command<S: Source, K: Sink>(
         Err(ReadEnd::TooLong) => return Status::Refused(Why::TooLong),
         Err(ReadEnd::NoMemory) => return Status::NoMemory,
     };
-    match answer(alloc, command, bytes.as_slice()) {
+    match answer(alloc, search, command, bytes.as_slice()) {
         Ok(written) => write_output(out, written.as_slice()),
         Err(Refusal::Fault(failure)) => failure.status(),
         Err(Refusal::NoMemory) => Status::NoMemory,
@@ -97,7 +121,7 @@ fn read_input<S: Source>(
     }
 }
 
-/// Writes the output of a command, and answers how that ended.
+/// Writes the output of a command, and returns how that ended.
 fn write_output<K: Sink>(out: &mut K, written: &[u8]) -> Status
     ensures { IsWritten written.now (K.held out.old) (K.held out.new)
         (K.faults out.old) (K.faults out.new)
@@ -108,18 +132,3 @@ fn write_output<K: Sink>(out: &mut K, written: &[u8]) -> Status
         Err(_fault) => Status::WriteFault,
     }
 }
-
-#[cfg(test)]
-mod certificates;
-#[cfg(test)]
-mod certified;
-#[cfg(test)]
-mod drawn;
-#[cfg(test)]
-mod figures;
-#[cfg(test)]
-mod flaws;
-#[cfg(test)]
-mod tests;
-#[cfg(test)]
-mod texts;

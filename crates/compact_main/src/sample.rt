@@ -10,6 +10,7 @@ ghost use Rattle.compact_main.specs.Samples.{sample_vertices, sample_place, IsTa
 ghost use Rattle.compact_main.specs.Samples.{sample_pieces, sample_piece, sample_way, IsGreatest};
 
 use crate::summary::push_line;
+use bars::{Bars, bars_of};
 use compact_types::{Axis, Items, NoMemory, Piece, Places, Plan, Point, Shape, Way};
 use std::alloc::Global;
 
@@ -19,9 +20,20 @@ pub(crate) const MOST_SAMPLE: u32 = 250;
 /// An arm has a hook where its number is a multiple of this.
 const HOOK_SPACING: u32 = 25;
 
-/// The shape and the places, in grid steps, of the sample drawing with so many nodes on its spine.
-/// Only memory can be wanting.
-pub(crate) fn sample_drawing(number: u32, alloc: Global) -> Result<(Shape, Places), NoMemory>
+/// The sample drawing with n nodes on its spine: its segments, and its places in grid steps.
+pub(crate) fn sample_drawing(number: u32, alloc: Global) -> Result<(Bars, Places), NoMemory>
+    requires some { 1 ≤ number }
+    requires most { number ≤ MOST_SAMPLE }
+    ensures sample { IfOk result (λ made. IsSample number made.0.plan made.1) }
+    ensures shape { IfOk result (λ made. IsShapeOf made.0.plan made.1 made.0) }
+{
+    let (shape, places) = sample_shape(number, alloc)?;
+    let bars = bars_of(alloc, &shape)?;
+    Ok((bars, places))
+}
+
+/// The shape of the sample, and its places in grid steps.
+fn sample_shape(number: u32, alloc: Global) -> Result<(Shape, Places), NoMemory>
     requires some { 1 ≤ number }
     requires most { number ≤ MOST_SAMPLE }
     ensures sample { IfOk result (λ made. IsSample number made.0.plan made.1) }

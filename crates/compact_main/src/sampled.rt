@@ -2,51 +2,62 @@
 
 ghost use Rattle.std.specs.Prelude.{◌≡◌, ◌<◌, ◌≤◌, length, IfOk};
 ghost use Rattle.compact_types.specs.declared.places.Axis.TheVariants as axes;
-ghost use Rattle.compact_types.specs.Lengths.{length_of};
+ghost use Rattle.compact_types.specs.Bests.{total_length, worth_of};
+ghost use Rattle.cert_text.specs.Accepting.{Accepts};
 ghost use Rattle.compact_main.specs.declared.sample.TheConstants.{MOST_SAMPLE};
-ghost use Rattle.compact_main.specs.Outputs.{IsSampleOutput};
 ghost use Rattle.compact_main.specs.Samples as samples;
+ghost use Rattle.compact_main.specs.Samples.{IsSampleOutput};
 ghost use Rattle.compact_main.specs.inner.Proofs.{CanCheck, CanMeasure};
 
-use crate::best::{CertifiedPlaces, certified_places};
 use crate::sample::{greatest_along, sample_drawing, sample_text};
-use crate::verify::check;
-use compact_types::{Axis, Items, NoMemory, Places, Plan, Shape, plain_length};
+use crate::search::{Search, certificate_of};
+use bars::Bars;
+use cert_check::check_cert;
+use cert_text::CertTree;
+use compact_types::{Axis, Items, NoMemory, Places, Refusal};
+use potentials::TotalLength;
+use shape_graphs::Measure;
 use std::alloc::Global;
 
 /// What is told of the best drawing of the sample of a number.
-pub(crate) fn draw_sample(alloc: Global, number: u32) -> Result<Items<u8>, NoMemory>
+pub(crate) fn draw_sample<X: Search>(
+    alloc: Global,
+    search: &X,
+    number: u32,
+) -> Result<Items<u8>, NoMemory>
     requires some { 1 ≤ number }
     requires most { number ≤ MOST_SAMPLE }
     ensures { IfOk result (IsSampleOutput number) }
 {
-    let (shape, places) = sample_drawing(number, alloc)?;
-    let best = certified_places(alloc, &shape, &places)?;
-    check_own(alloc, &shape, &best)?;
-    told(alloc, number, &shape.plan, &best.places)
+    let (bars, places) = sample_drawing(number, alloc)?;
+    let best = search.best(alloc, &bars, &places)?;
+    let tree = certificate_of(alloc, &bars, &best)?;
+    check_own(alloc, &bars, &best.key.places, &tree)?;
+    told(alloc, number, &bars, &best.key.places)
 }
 
-/// Checks a certificate that was made here. The check never finds a fault in it, so that only
-/// memory can be wanting.
-fn check_own(alloc: Global, shape: &Shape, best: &CertifiedPlaces) -> Result<(), NoMemory>
-    requires { CanCheck shape.now best.now.places best.now.tree.nodes }
+/// Checks a certificate that was made here, so that the check finds no fault in it.
+fn check_own(alloc: Global, bars: &Bars, places: &Places, tree: &CertTree) -> Result<(), NoMemory>
+    requires can { CanCheck bars.now places.now tree.now.nodes }
+    requires accepted { Accepts bars.now places.now tree.now.nodes }
 {
-    match check(alloc, shape, &best.places, &best.tree) {
+    match check_cert(alloc, bars, places, tree) {
         Ok(()) => Ok(()),
-        Err(_refusal) => Err(NoMemory),
+        Err(Refusal::NoMemory) => Err(NoMemory),
+        Err(Refusal::Fault(_fault)) => unreachable!(),
     }
 }
 
 /// The lines that tell of a drawing of the sample of a number.
-fn told(alloc: Global, number: u32, plan: &Plan, places: &Places) -> Result<Items<u8>, NoMemory>
-    requires measurable { CanMeasure plan.now places.now }
+fn told(alloc: Global, number: u32, bars: &Bars, places: &Places) -> Result<Items<u8>, NoMemory>
+    requires measurable { CanMeasure bars.now places.now }
     requires some { 0 < length places.now.xy }
-    ensures { IfOk result (λ text. text ≡ samples.sample_text number plan.now
-        (length_of plan.now places.now) (samples.greatest_along axes.X places.now)
+    ensures { IfOk result (λ text. text ≡ samples.sample_text number bars.now.plan
+        (worth_of total_length bars.now places.now) (samples.greatest_along axes.X places.now)
         (samples.greatest_along axes.Y places.now)) }
 {
-    let length = plain_length(plan, places);
+    let length = TotalLength.worth(bars, places);
     let width = greatest_along(Axis::X, places);
     let height = greatest_along(Axis::Y, places);
-    sample_text(alloc, number, plan, length, width, height)
+    sample_text(alloc, number, &bars.shape().plan, length, width, height)
 }

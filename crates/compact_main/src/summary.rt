@@ -2,14 +2,13 @@
 //! apart.
 
 ghost use Rattle.std.specs.Prelude.{◌≡◌, ◌++◌, IfOk, OnOk};
-ghost use Rattle.drawing_read.specs.Readings.{IsReading};
-ghost use Rattle.drawing_check.specs.Shapes.{IsShapeOf};
+ghost use Rattle.compact_main.specs.Drawings.{IsSummary};
 ghost use Rattle.compact_main.specs.Summaries as summaries;
-ghost use Rattle.compact_main.specs.Summaries.{IsSummary, number_line};
+ghost use Rattle.compact_main.specs.Summaries.{number_line};
+ghost use Rattle.compact_main.specs.inner.Found.{IsRead};
 
 use crate::drawing::Drawing;
 use crate::pairs::{count_pairs, reach_of_shape};
-use bars::bars_of;
 use compact_types::{Items, NoMemory, plain_length};
 use itoa::{Buffer, Integer};
 use std::alloc::Global;
@@ -36,18 +35,16 @@ pub struct Summary {
 }
 
 /// The numbers of the drawing.
-#[tactic(auto, using(crate::proofs::Sound::sound_shape, crate::proofs::Sound::within_limits))]
+#[tactic(auto, using(crate::proofs::Sound::within_limits))]
 pub(crate) fn summary_of(alloc: Global, drawing: &Drawing) -> Result<Summary, NoMemory>
-    requires read { IsReading drawing.now.tree drawing.now.reading }
-    requires shape { IsShapeOf drawing.now.reading.plan
-        drawing.now.reading.places drawing.now.shape }
+    requires { IsRead drawing.now }
     ensures { IfOk result (IsSummary drawing.now) }
 {
     let reading = &drawing.reading;
     let length = plain_length(&reading.plan, &reading.places);
-    let bars = bars_of(alloc, &drawing.shape)?;
-    let reach = reach_of_shape(alloc, &bars)?;
-    let counts = count_pairs(&bars, &reach);
+    let bars = &drawing.bars;
+    let reach = reach_of_shape(alloc, bars)?;
+    let counts = count_pairs(bars, &reach);
     Ok(Summary {
         vertices: reading.plan.vertices,
         pieces: reading.plan.pieces.len(),

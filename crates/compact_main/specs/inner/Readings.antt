@@ -2,6 +2,8 @@
 use Rattle.std.specs.Prelude.{◌≡◌, ℕ, List, Option, None, Some}
 use Rattle.io_ends.specs.Ends.{Gave}
 use Rattle.io_ends.specs.declared.transfer.ReadEnd.{ReadEnd}
+use Rattle.compact_main.specs.declared.command.Command.{Command}
+use Rattle.compact_main.specs.declared.command.Command.TheVariants.{Draw, Check, Measure, Verify, Sample}
 use Rattle.compact_main.specs.Intakes.{Intake}
 use Rattle.compact_main.specs.Intakes.Intake.{a_text, nothing}
 
@@ -16,7 +18,10 @@ abbrev pub IsGivenUp : {S : Type 0} →
 IsGivenUp (a_text limit) left source source' why = Gave why limit (left source) (left source')
 IsGivenUp nothing left source source' why = ⊥
 
--- a text is read
-abbrev pub IsText : Intake → Type 0
-IsText (a_text limit) = Unit {0}
-IsText nothing = ⊥
+-- the command reads a text that is to hold a drawing
+abbrev pub ReadsDrawing : Command → Type 0
+ReadsDrawing (Draw pitch form) = Unit {0}
+ReadsDrawing Check = Unit {0}
+ReadsDrawing Measure = Unit {0}
+ReadsDrawing Verify = Unit {0}
+ReadsDrawing (Sample number) = ⊥

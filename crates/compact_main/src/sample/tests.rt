@@ -23,8 +23,9 @@ fn is_as_drawn(alloc: Global, row: Row) -> Result<bool, NoMemory> {
     if row.number == 0 || row.number > MOST_SAMPLE {
         return Ok(false);
     }
-    let (shape, places) = sample_drawing(row.number, alloc)?;
-    let pieces = shape.plan.pieces.as_slice();
+    let (bars, places) = sample_drawing(row.number, alloc)?;
+    let plan = &bars.shape().plan;
+    let pieces = plan.pieces.as_slice();
     let points = places.xy.as_slice();
     for &(index, from, to) in row.ends {
         if pieces.get(index) != Some(&Piece { from, to }) {
@@ -37,7 +38,7 @@ fn is_as_drawn(alloc: Global, row: Row) -> Result<bool, NoMemory> {
         }
     }
     Ok(
-        shape.plan.vertices == row.vertices
+        plan.vertices == row.vertices
             && pieces.len() == row.pieces
             && greatest_along(Axis::X, &places) == row.width
             && greatest_along(Axis::Y, &places) == row.height,

@@ -1,7 +1,8 @@
-use Rattle.std.proofs.Common.{Err}
+use Rattle.std.proofs.Common.{Err, sym, subst}
 use Rattle.compact_types.specs.declared.plan.Shape.{Shape as AnyShape}
 use Rattle.compact_types.proofs.Laws.{decides_by_one_answer}
 use Rattle.drawing_check.specs.Faults.{FirstShapeFault}
+use Rattle.drawing_check.specs.Shapes.{IsShapeOf}
 use Rattle.compact_main.specs.declared.drawing.Drawing.{Drawing}
 use Rattle.compact_main.specs.declared.status.Why.TheVariants.{Shape as Figure}
 use Rattle.compact_main.specs.Drawings.{FirstTextFault}
@@ -28,5 +29,7 @@ returns c =
     decides_by_one_answer _ (record {
       spelled = c.in-Ok.ensures.decides.value;
       read = c.in-Ok-read_drawing.ensures.decides.value;
-      checked = c.in-Ok-check.ensures.decides.value;
+      checked =
+          subst (λ (s : AnyShape). IsShapeOf c.in-Ok-read_drawing.reading.plan c.in-Ok-read_drawing.reading.places s) (sym c.in_ok-bars.ensures)
+          c.in-Ok-check.ensures.decides.value;
     }) tt (text_answer c.args.bytes.now)

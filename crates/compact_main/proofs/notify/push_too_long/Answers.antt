@@ -1,5 +1,5 @@
 use Rattle.compact_main.proofs.Lines.{then}
 use Rattle.compact_main.proofs.notify.push_too_long.Goals as goal
 
-pub returns : goal.returns
-returns c = then (then c.push.ensures c.push_number.ensures) c.push-2.ensures
+pub returns-clause-added : goal.returns-clause-added
+returns-clause-added c = then (then c.push.ensures c.push_number.ensures.added) c.push-2.ensures

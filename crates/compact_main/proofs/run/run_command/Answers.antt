@@ -1,4 +1,3 @@
-use Rattle.compact_main.specs.Intakes.{intake_of}
 use Rattle.compact_main.proofs.RunEnds.{failed_run, long_run, fault_run, written_run, gave_too_much}
 use Rattle.compact_main.proofs.run.run_command.Goals as goal
 
@@ -21,7 +20,7 @@ returns-in-Err-Fault g c =
 
 pub returns-in-Err-TooLong : goal.returns-in-Err-TooLong
 returns-in-Err-TooLong g c =
-    let gave = gave_too_much g.S.Source.left g.S.Source.faults c.args.source.now c.read_input.new.source (intake_of c.args.command)
+    let gave = gave_too_much g.S.Source.left g.S.Source.faults c.args.source.now c.read_input.new.source c.args.command
     (rw c.in-Err-TooLong.field-0-is at c.in-Err-TooLong.ensures.given) in
     long_run c.args.command g.S.Source.left g.S.Source.faults c.args.source.now c.read_input.new.source
     g.K.Sink.held g.K.Sink.faults c.args.out.now gave.0 gave.1 gave.2

@@ -1,7 +1,7 @@
-use Rattle.compact_main.proofs.SampleDrawings.{shape_of_sample}
+use Rattle.compact_main.proofs.SampleLaws.{sound_sample}
 use Rattle.compact_main.proofs.sample.sample_drawing.Goals as goal
 
-pub returns-clause-shape : goal.returns-clause-shape
-returns-clause-shape c =
-    shape_of_sample c.args.number _ _ c.requires.some
-    (record { vertices = c.vertices_of.ensures; pieces = c.in_ok-pieces.ensures; points = c.in_ok-xy.ensures }) c.in_ok-ways.ensures
+pub bars_of-requires : goal.bars_of-requires
+bars_of-requires c =
+    sound_sample c.args.number c.in_ok-shape.shape c.in_ok-shape.places c.requires.some c.requires.most c.in_ok-shape.ensures.sample
+    c.in_ok-shape.ensures.shape

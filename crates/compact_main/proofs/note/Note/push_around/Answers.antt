@@ -1,0 +1,5 @@
+use Rattle.compact_main.proofs.Lines.{then}
+use Rattle.compact_main.proofs.note.Note.push_around.Goals as goal
+
+pub returns-clause-added : goal.returns-clause-added
+returns-clause-added c = then (then c.push.ensures c.push_number.ensures.added) c.push-2.ensures

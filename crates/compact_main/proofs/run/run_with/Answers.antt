@@ -1,0 +1,17 @@
+use Rattle.compact_main.specs.Commands.{texts_of}
+use Rattle.compact_main.proofs.RunEnds.{asked_run}
+use Rattle.compact_main.proofs.run.run_with.Goals as goal
+
+pub returns-then-ne-clause-run : goal.returns-then-ne-clause-run
+returns-then-ne-clause-run g c =
+    asked_run (texts_of c.args.words.now) c.in-Some.request.command
+    g.S.Source.left g.S.Source.faults c.args.source.now c.run_command-status.new.source
+    g.K.Sink.held g.K.Sink.faults c.args.out.now c.run_command-status.new.out
+    c.run_command-status.result c.in-Some.ensures.some c.run_command-status.ensures
+
+pub returns-else-ne-clause-run : goal.returns-else-ne-clause-run
+returns-else-ne-clause-run g c =
+    asked_run (texts_of c.args.words.now) c.in-Some.request.command
+    g.S.Source.left g.S.Source.faults c.args.source.now c.run_command-status.new.source
+    g.K.Sink.held g.K.Sink.faults c.args.out.now c.run_command-status.new.out
+    c.run_command-status.result c.in-Some.ensures.some c.run_command-status.ensures

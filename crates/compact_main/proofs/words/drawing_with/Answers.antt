@@ -1,0 +1,11 @@
+use Rattle.std.proofs.Common.{subst}
+use Rattle.compact_main.specs.inner.Askings.{AreFound}
+use Rattle.compact_main.proofs.CommandWords.{no_drawing, some_drawing}
+use Rattle.compact_main.proofs.words.drawing_with.Goals as goal
+
+pub returns-in-Some : goal.returns-in-Some
+returns-in-Some c = λ words found.
+    some_drawing words c.in-Some.options c.unwrap_or.result c.form_of.result c.unwrap_or.ensures c.form_of.ensures (subst (AreFound words) c.in-Some.is found)
+
+pub returns-in-None : goal.returns-in-None
+returns-in-None c = λ words found. no_drawing words (subst (AreFound words) c.in-None.is found)

@@ -1,0 +1,58 @@
+//! How the best places of a drawing are found, and what shows that they are.
+
+ghost use Rattle.std.specs.Prelude.{◌≡◌, IfOk};
+ghost use Rattle.compact_types.specs.declared.limits.TheConstants.{GREATEST_THOUSANDTHS};
+ghost use Rattle.compact_types.specs.Bests.{total_length, IsBest, worth_of};
+ghost use Rattle.compact_types.specs.Drawings.{IsDrawing};
+ghost use Rattle.compact_types.specs.Magnitudes.{AreWithin};
+ghost use Rattle.shape_graphs.specs.Backings.{DoBack};
+ghost use Rattle.workers.specs.Searches.{HasEnded};
+ghost use Rattle.cert_text.specs.declared.trimming.TheConstants.{MOST_SPLITS};
+ghost use Rattle.cert_text.specs.Accepting.{Accepts};
+ghost use Rattle.cert_text.specs.Loads.{IsCertTree};
+ghost use Rattle.cert_text.specs.Trees.{IsShallow};
+
+use bars::Bars;
+use cert_text::{CertTree, trim};
+use compact_types::{Flows, NoMemory, Places};
+use potentials::TotalLength;
+use std::alloc::Global;
+use workers::{Best, search_alone};
+
+/// A search for the drawing of least total length. Every search finds the same places, so what the
+/// program writes does not depend on which one it is given.
+pub trait Search {
+    /// The best key of the shape, in grid steps, and a finished board that shows it. The search
+    /// begins with the places, which are a drawing of the shape.
+    fn best(&self, alloc: Global, bars: &Bars, places: &Places) -> Result<Best<Flows>, NoMemory>
+        requires drawing { IsDrawing bars.now places.now }
+        requires near { AreWithin GREATEST_THOUSANDTHS places.now }
+        ensures best { IfOk result (λ best. IsBest total_length bars.now best.key.places) }
+        ensures worth { IfOk result (λ best.
+            best.key.worth ≡ worth_of total_length bars.now best.key.places) }
+        ensures board { IfOk result (λ best.
+            HasEnded total_length DoBack bars.now best.key best.board) };
+}
+
+/// The search with one worker.
+pub struct Alone;
+
+impl Search for Alone {
+    fn best(&self, alloc: Global, bars: &Bars, places: &Places) -> Result<Best<Flows>, NoMemory> {
+        search_alone(alloc, &TotalLength, bars, places)
+    }
+}
+
+/// The certificate that the board of a finished search makes for its best places.
+pub(crate) fn certificate_of(
+    alloc: Global,
+    bars: &Bars,
+    best: &Best<Flows>,
+) -> Result<CertTree, NoMemory>
+    requires { HasEnded total_length DoBack bars.now best.now.key best.now.board }
+    ensures accepted { IfOk result (λ tree. Accepts bars.now best.now.key.places tree.nodes) }
+    ensures tree { IfOk result (λ tree. IsCertTree tree.nodes) }
+    ensures shallow { IfOk result (λ tree. IsShallow MOST_SPLITS tree.nodes) }
+{
+    trim(alloc, bars, &best.board)
+}

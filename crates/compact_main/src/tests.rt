@@ -1,0 +1,15 @@
+//! End to end: what is written, and what the user is told, by tables of runs.
+
+mod certificates;
+mod certified;
+mod drawings;
+mod drawn;
+mod endings;
+mod examples;
+mod figures;
+mod flaws;
+mod limits;
+mod pitched;
+mod refusals;
+mod rows;
+mod texts;
