@@ -1,14 +1,18 @@
 -- What is written of a drawing, with its places and the certificate that they are accepted by, is
 -- proved: it holds a drawing of the same shape, and ends with that certificate.
 use Rattle.std.proofs.Common.{◌≡◌, ℕ, zero, suc, ◌*◌, ◌<◌, pos, List, [], ◌∷◌, ◌++◌, length, map, refl, sym, ap, ◌∙◌, subst, arith}
-use Rattle.std.specs.Prelude.{◌*ℤ◌}
+use Rattle.std.specs.Prelude.{◌*ℤ◌, ◌≤ℤ◌, ℤ}
 use Rattle.compact_types.specs.declared.places.Axis.{Axis}
 use Rattle.compact_types.specs.declared.places.Axis.TheVariants.{X, Y}
 use Rattle.compact_types.specs.declared.places.Point.{Point}
 use Rattle.compact_types.specs.declared.places.Places.{Places}
+use Rattle.compact_types.specs.declared.plan.Plan.{Plan}
 use Rattle.compact_types.specs.declared.plan.Shape.{Shape}
+use Rattle.compact_types.specs.Drawings.{IsCrossingFree}
 use Rattle.compact_types.specs.Lookups.{place, along}
 use Rattle.compact_types.specs.Scalings.{IsScaled}
+use Rattle.compact_types.proofs.Laws.{crossing_free_of_scaled}
+use Rattle.drawing_check.specs.Shapes.{IsShapeOf}
 use Rattle.gml_text.specs.declared.tree.Tree.{Tree}
 use Rattle.gml_text.proofs.Laws.{spelled_within}
 use Rattle.drawing_read.specs.declared.reading.Reading.{Reading}
@@ -24,9 +28,9 @@ use Rattle.cert_text.specs.Loads.{IsCertTree}
 use Rattle.cert_text.specs.Texts.{certificate_text}
 use Rattle.cert_text.proofs.Laws.{printed_certificate}
 use Rattle.compact_main.specs.declared.drawing.Drawing.{Drawing}
-use Rattle.compact_main.specs.Drawings.{HoldsDrawing, shape_of, AreBestPlaces, IsAccepted, IsOnGridAt, text_with}
+use Rattle.compact_main.specs.Drawings.{HoldsDrawing, shape_of, step_of, AreBestPlaces, IsAccepted, IsOnGridAt, text_with}
 use Rattle.compact_main.proofs.BestDrawings.{can_put}
-use Rattle.compact_main.proofs.ScaledUp.{shape_of_scaled}
+use Rattle.compact_main.proofs.ProvedAnswers.{some_step}
 use Rattle.compact_main.proofs.WrittenTexts.{spelled_with_certificate, printed_before_line}
 
 -- as many points, each in thousandths
@@ -39,12 +43,12 @@ place_in_thousandths pitch [] v inside = absurd (omega (arith, inside))
 place_in_thousandths pitch (point ∷ points) zero inside = refl
 place_in_thousandths pitch (point ∷ points) (suc v) inside = place_in_thousandths pitch points v (omega (arith, inside))
 
-along_in_thousandths : (pitch : ℕ) (axis : Axis) (point : Point) → along axis (in_thousandths pitch point) ≡ pos (1000 * pitch) *ℤ along axis point
+along_in_thousandths : (pitch : ℕ) (axis : Axis) (point : Point) → along axis (in_thousandths pitch point) ≡ step_of pitch *ℤ along axis point
 along_in_thousandths pitch X point = refl
 along_in_thousandths pitch Y point = refl
 
 -- the places of the reading that is written are those in grid steps, scaled up
-pub in_grid_steps : (reading : Reading) (places : Places) (pitch : ℕ) → IsScaled (pos (1000 * pitch)) (moved_reading reading places pitch).places places
+pub in_grid_steps : (reading : Reading) (places : Places) (pitch : ℕ) → IsScaled (step_of pitch) (moved_reading reading places pitch).places places
 in_grid_steps reading places pitch =
     let many = as_many pitch places.xy in
     record {
@@ -53,6 +57,15 @@ in_grid_steps reading places pitch =
           ap (along axis) (place_in_thousandths pitch places.xy v (omega (arith, many, inside)))
           ∙ along_in_thousandths pitch axis (place places.xy v);
     }
+
+-- the shape of a plan in some places is that in each drawing of it, scaled up
+shape_of_scaled : (by : ℤ) (plan : Plan) (shape : Shape) (other places scaled : Places) → pos 1 ≤ℤ by → IsScaled by places scaled →
+    IsShapeOf plan other shape → IsCrossingFree shape scaled → IsShapeOf plan places shape
+shape_of_scaled by plan shape other places scaled some is of free = record {
+  same_plan = of.same_plan;
+  connected = of.connected;
+  crossing_free = crossing_free_of_scaled by shape places scaled some is free;
+}
 
 -- the text is proved by these entries: it holds a drawing of the shape, which is on the grid of
 -- the pitch at these places in grid steps; it ends with the certificate; and that shows that the
@@ -87,7 +100,7 @@ drawn_is_proved text drawing places pitch nodes written holds can tree accepted 
       holds = record {
         spelled = spelled_with_certificate (printed new) back.read pitch nodes before (omega (arith, most)) tree.in_range back.spelled;
         read = read;
-        checked = shape_of_scaled (1000 * pitch) drawing.reading.plan (shape_of drawing) drawing.reading.places moved.places places (omega (arith, some)) scaled
+        checked = shape_of_scaled (step_of pitch) drawing.reading.plan (shape_of drawing) drawing.reading.places moved.places places (some_step pitch some) scaled
             holds.checked accepted.drawing.crossing_free;
       };
       same_shape = refl;

@@ -18,10 +18,8 @@ pub mod SampleDrawings
 pub mod SampleSizes
 pub mod SampleLaws
 pub mod ShownBest
-pub mod ScaledUp
 pub mod WrittenTexts
 pub mod DrawnIsProved
-pub mod GridAnswers
 pub mod ProvedAnswers
 pub mod CommandAnswers
 pub mod CommandOutputs

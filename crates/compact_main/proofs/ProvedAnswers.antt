@@ -20,7 +20,7 @@ use Rattle.cert_text.specs.Loads.{IsCertTree}
 use Rattle.cert_text.specs.Texts.{head_line, entry_line, entry_lines, certificate_text}
 use Rattle.cert_text.specs.Trees.{IsShallow}
 use Rattle.cert_check.specs.declared.fault.CheckFault.{CheckFault}
-use Rattle.compact_types.proofs.Laws.{drawing-scaled, one_scaled, scaled_not_off, one_first_off}
+use Rattle.compact_types.proofs.Laws.{drawing-scaled, one_scaled, scaled_not_off, one_first_off, some_scaled_or_off}
 use Rattle.cert_text.proofs.Laws.{accepted_best, one_certificate, whole_shallow, shallower_from}
 use Rattle.cert_check.proofs.Laws.{one_check, only_fault, no_fault}
 use Rattle.gml_text.specs.declared.limits.TheConstants.{MOST_BYTES}
@@ -32,7 +32,6 @@ use Rattle.compact_main.specs.Drawings.{shape_of, step_of, AreBestPlaces, IsAcce
 use Rattle.compact_main.specs.Outputs.{IsInput, IsProved, FirstUnproved}
 use Rattle.compact_types.specs.Scalings.{IsScaled, IsFirstOff}
 use Rattle.compact_main.specs.inner.Proofs.{CanCheck, CanMeasure}
-use Rattle.compact_main.proofs.GridAnswers.{some_scaled_or_off}
 use Rattle.compact_main.proofs.Sound.{is_drawing, sound_shape, within_limits}
 
 -- a step of the grid has some thousandths

@@ -16,7 +16,7 @@ use Rattle.compact_types.specs.declared.plan.Shape.{Shape}
 use Rattle.compact_types.specs.declared.plan.Way.TheVariants.{East}
 use Rattle.compact_types.specs.Lookups.{origin, no_piece, along, EndsAreVertices}
 use Rattle.compact_types.specs.Magnitudes.{IsWithin, AreWithin}
-use Rattle.compact_types.proofs.Laws.{plan_of, shape_of, same_plan, same_places}
+use Rattle.compact_types.proofs.Laws.{plan_of, shape_of, same_plan, same_places, drawing_of_crossing_free}
 use Rattle.drawing_check.specs.Shapes.{IsShapeOf}
 use Rattle.drawing_check.proofs.Laws.{one_shape}
 use Rattle.bars.specs.Solutions.{IsSound}
@@ -114,5 +114,5 @@ sound_sample number shape places some most sample is = record {
   connected = is.connected;
   some_vertex = omega (arith, sample.vertices);
   few_vertices = omega (arith, sample.vertices);
-  drawable = (places, record { crossing_free = is.crossing_free });
+  drawable = (places, drawing_of_crossing_free shape places is.crossing_free);
 }

@@ -6,6 +6,7 @@ use Rattle.compact_types.specs.declared.plan.Plan.{Plan}
 use Rattle.compact_types.specs.declared.plan.Shape.{Shape}
 use Rattle.compact_types.specs.Connected.{IsConnected}
 use Rattle.compact_types.specs.Drawings.{IsDrawing}
+use Rattle.compact_types.proofs.Laws.{drawing_of_crossing_free}
 use Rattle.gml_text.specs.declared.tree.Tree.{Tree}
 use Rattle.drawing_read.specs.declared.reading.Reading.{Reading}
 use Rattle.drawing_read.specs.Readings.{IsReading, IsWithinLimits}
@@ -22,6 +23,10 @@ use Rattle.compact_main.specs.inner.Found.{IsRead}
 pub within_limits : (tree : Tree) (reading : Reading) → IsReading tree reading → IsWithinLimits reading
 within_limits tree reading read = reading_within_limits tree reading read
 
+-- the places that were read are a drawing of their shape
+pub is_drawing : (plan : Plan) (places : Places) (shape : Shape) → IsShapeOf plan places shape → IsDrawing shape places
+is_drawing plan places shape is = drawing_of_crossing_free shape places is.crossing_free
+
 -- its shape is connected, small, and has the drawing that was read
 pub sound_shape : (tree : Tree) (reading : Reading) (shape : Shape) → IsReading tree reading → IsShapeOf reading.plan reading.places shape → IsSound shape
 sound_shape tree reading shape read is =
@@ -30,12 +35,8 @@ sound_shape tree reading shape read is =
       connected = subst (λ (p : Plan). IsConnected p) (sym is.same_plan) is.connected;
       some_vertex = subst (λ (p : Plan). 0 < p.vertices) (sym is.same_plan) limits.some_vertex;
       few_vertices = subst (λ (p : Plan). p.vertices ≤ MOST_VERTICES) (sym is.same_plan) limits.few_vertices;
-      drawable = (reading.places, record { crossing_free = is.crossing_free });
+      drawable = (reading.places, is_drawing reading.plan reading.places shape is);
     }
-
--- the places that were read are a drawing of it
-pub is_drawing : (plan : Plan) (places : Places) (shape : Shape) → IsShapeOf plan places shape → IsDrawing shape places
-is_drawing plan places shape is = record { crossing_free = is.crossing_free }
 
 -- so of a drawing that was read
 module _ (drawing : Drawing) (is : IsRead drawing) where

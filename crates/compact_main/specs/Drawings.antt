@@ -1,6 +1,7 @@
 -- The drawing that a text holds and why it holds none; and what is said of a drawing: its best
 -- places, what shows that they are, where it is on the grid, and its numbers.
-use Rattle.std.specs.Prelude.{◌≡◌, ℕ, ◌*◌, List, length, pos, ℤ}
+use Rattle.std.specs.Prelude.{◌≡◌, ℕ, ◌*ℤ◌, List, length, pos, ℤ}
+use Rattle.compact_types.specs.declared.limits.TheConstants.{THOUSANDTHS}
 use Rattle.compact_types.specs.declared.places.Axis.TheVariants.{X, Y}
 use Rattle.compact_types.specs.declared.places.Places.{Places}
 use Rattle.compact_types.specs.declared.plan.Shape.{Shape}
@@ -65,8 +66,8 @@ AreBestPlaces drawing places = IsBest total_length (shape_of drawing) places
 abbrev pub worth_with : Drawing → Places → ℤ
 worth_with drawing places = worth_of total_length (shape_of drawing) places
 
--- the text of the drawing with its vertices at these places, of which neighbouring lines of the
--- grid are so many units apart; all else is as it was read
+-- the text of the drawing with its vertices at these places, neighbouring lines of the grid
+-- `pitch` units apart; all else is as it was read
 abbrev pub text_with : Drawing → ℕ → Places → List ℕ
 text_with drawing pitch places = printed (placed drawing.tree drawing.reading.spots places pitch)
 
@@ -79,7 +80,7 @@ IsFirstFlaw drawing places nodes fault = FirstCheckFault (shape_of drawing) plac
 
 -- how many thousandths a grid step has at a pitch
 abbrev pub step_of : ℕ → ℤ
-step_of pitch = pos (1000 * pitch)
+step_of pitch = THOUSANDTHS *ℤ pos pitch
 
 -- the drawing as it was read is on the grid of the pitch, at these places in grid steps; or this
 -- vertex is the first that is not on the grid

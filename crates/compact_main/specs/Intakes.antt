@@ -1,4 +1,4 @@
--- What a command reads of its source before it answers.
+-- What a command reads of its source.
 use Rattle.std.specs.Prelude.{◌≡◌, ℕ, ◌≤◌, List, [], length, Option, Some}
 use Rattle.std.specs.Io.KnownBytes.{Consumes, IsAtEnd}
 use Rattle.io_ends.specs.Counts.{Rose}
@@ -7,7 +7,7 @@ use Rattle.compact_main.specs.declared.command.Command.{Command}
 use Rattle.compact_main.specs.declared.command.Command.TheVariants.{Draw, Check, Measure, Verify, Sample}
 use Rattle.compact_main.specs.declared.command.TheConstants.{MOST_INPUT_BYTES}
 
--- a text of at most so many bytes, to its end, or nothing
+-- a text of at most this many bytes, to its end, or nothing
 pub data Intake : Type 0 where
   a_text : ℕ → Intake
   nothing : Intake

@@ -149,7 +149,7 @@ pub record IsLine (Asked : Command → Type 0) (status : Status) (line : List �
   pub of_command : (command : Command) → Asked command → limit ≡ limit_of command
   pub text : line ≡ note_text limit status
 
--- the sink gained the line, or a front of it where a write failed
+-- the sink gained the line, or a front of it if a write failed
 abbrev pub IsNoted : List ℕ → Option (List ℕ) → Option (List ℕ) → ℕ → ℕ → Type 0
 IsNoted line held held' faults faults' =
     (Appends held held' line × Uncounted faults faults')

@@ -33,8 +33,8 @@ pub record IsInput (command : Command) (text : List ℕ) (drawing : Drawing) : T
   pub within : length text ≤ limit_of command
   pub holds : HoldsDrawing text drawing
 
--- the drawing is written with the best places of its shape and so many units between neighbouring
--- lines of the grid; all else as it was read
+-- the drawing is written with the best places of its shape, neighbouring lines of the grid `pitch`
+-- units apart; all else as it was read
 pub record DrawsBest (drawing : Drawing) (pitch : ℕ) (places : Places) (written : List ℕ) :
     Type 0 where
   pub best : AreBestPlaces drawing places

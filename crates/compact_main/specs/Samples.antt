@@ -1,5 +1,5 @@
--- The sample drawing of a number: a spine of so many nodes, an arm at each of them, and a hook at
--- every 25th arm. Places are in grid steps.
+-- The sample drawing of a number n: a spine of n nodes, an arm at each of them, and a hook at every
+-- 25th arm. Places are in grid steps.
 use Rattle.std.specs.Prelude.{◌≡◌, ℕ, zero, suc, ◌+◌, ◌-◌, ◌*◌, ◌/◌, ◌<◌, ℤ, pos, ◌≤ℤ◌, List, ◌++◌}
 use Rattle.std.specs.Prelude.{length, slice_index_or, nat_lt, if◌then◌else◌, codes, decimal}
 use Rattle.std.specs.Fmt.{signed_decimal}
@@ -42,7 +42,7 @@ hook_node number j = 2 * number + j
 abbrev pub sample_vertices : ℕ → ℕ
 sample_vertices number = 2 * number + hooks_of number
 
--- where they stand: the spine goes up, two steps from node to node, an arm one step east, and a
+-- their places: the spine goes up, two steps from node to node, an arm one step east, and a
 -- hook one step up from the end of its arm
 abbrev pub grid_point : ℕ → ℕ → Point
 grid_point x y = record { x = pos x; y = pos y }
@@ -109,7 +109,7 @@ abbrev pub greatest_along : Axis → Places → ℤ
 greatest_along axis places =
     greatest_to (λ v. along axis (place places.xy v)) (length places.xy - 1)
 
--- one vertex stands so far along the axis, and none further
+-- one vertex has this coordinate along the axis, and none has a greater one
 pub record IsGreatest (axis : Axis) (places : Places) (greatest : ℤ) : Type 0 where
   pub reached : (v : ℕ) × (v < length places.xy) × (along axis (place places.xy v) ≡ greatest)
   pub none_above : (v : ℕ) → v < length places.xy → (along axis (place places.xy v)) ≤ℤ greatest

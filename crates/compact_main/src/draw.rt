@@ -114,7 +114,7 @@ fn write_plain(
     print(alloc, drawing, places, pitch)
 }
 
-/// The tree of the drawing, printed with its best places and so many units between neighbouring
+/// The tree of the drawing, printed with its best places and `pitch` units between neighbouring
 /// lines of the grid.
 fn print(
     alloc: Global,

@@ -2,8 +2,8 @@
 //!
 //! `run_alone` is the top call and carries the program's promise. `IsRun` says what the run did,
 //! for words, a source and a sink of any kind: what was read and written, how each status came
-//! about, and that every text is answered or refused with its first fault. `IsTold` says what the
-//! user was told. The laws say that a text is accepted or has one first fault, and that what is
+//! about, and that every text has an output or is refused with its first fault. `IsTold` says what
+//! the user was told. The laws say that a text is accepted or has one first fault, and that what is
 //! written is a function of the text.
 #![tactic(auto)]
 

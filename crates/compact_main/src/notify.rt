@@ -19,8 +19,8 @@ use drawing_read::DrawFault;
 use gml_text::{GmlKind, NumberFault};
 use io_ends::{Sink, write_all};
 
-/// Tells the user how a run ended that was not done: one line, made without memory. Where the text
-/// was too long the line names the limit. A fault of `notes` changes nothing but its count.
+/// Tells the user in one line how a run ended that was not done, without taking memory. If the text
+/// was too long, the line names the limit. A fault of `notes` changes nothing but its count.
 pub(crate) fn notify<N: Sink>(notes: &mut N, limit: usize, status: Status)
     ensures { IsNoted (note_text limit status)
         (N.held notes.old) (N.held notes.new) (N.faults notes.old) (N.faults notes.new) }

@@ -99,7 +99,7 @@ pub(crate) fn form_of(options: Options) -> Form
     }
 }
 
-/// Whether there are more words than options can be. Then none of them is looked at.
+/// Whether there are more words than options can be; if so, they are not looked at.
 pub(crate) fn has_too_many(words: &[String]) -> bool
     ensures { IsTrue result ↔ (MOST_OPTION_WORDS < length words.now) }
 {

@@ -1,6 +1,6 @@
 //! How many pairs of segments a shape has, and how many of them it keeps apart by itself.
 
-ghost use Rattle.std.specs.Prelude.{◌<◌, ◌+◌, ◌≤◌, ◌↔◌, [], IsTrue, IfOk};
+ghost use Rattle.std.specs.Prelude.{◌<◌, ◌+◌, ◌≤◌, [], IfOk};
 ghost use Rattle.compact_types.specs.declared.limits.TheConstants.{MOST_VERTICES};
 ghost use Rattle.bars.specs.Segments.{segment_count, IsPair};
 ghost use Rattle.separation.specs.Reaching.{IsReachOf};
@@ -19,7 +19,7 @@ pub(crate) struct PairCounts {
     pub(crate) separated: u32,
 }
 
-/// What leads to what in the graphs of the shape alone, where no side has been chosen.
+/// Which node reaches which in the graphs of the shape alone, with no side chosen.
 pub(crate) fn reach_of_shape(alloc: Global, bars: &Bars) -> Result<Reach, NoMemory>
     ensures { IfOk result (IsReachOf bars.now []) }
 {
@@ -88,7 +88,7 @@ fn with_segment(counts: PairCounts, bars: &Bars, reach: &Reach, s: u32, t: u32) 
     requires so_far { AreCountsWith bars.now t s counts }
     ensures { AreCountsWith bars.now t (s + 1) result }
 {
-    if !is_pair(bars, s, t) {
+    if !bars.is_pair(s, t) {
         return counts;
     }
     let pairs = counts.pairs + 1;
@@ -100,13 +100,4 @@ fn with_segment(counts: PairCounts, bars: &Bars, reach: &Reach, s: u32, t: u32) 
     } else {
         PairCounts { pairs, ..counts }
     }
-}
-
-/// Whether the two segments share no vertex.
-fn is_pair(bars: &Bars, s: u32, t: u32) -> bool
-    requires s { s < t }
-    requires t { t < segment_count bars.now }
-    ensures { IsTrue result ↔ IsPair bars.now s t }
-{
-    !bars.share_vertex(s, t)
 }

@@ -1,4 +1,4 @@
-//! The top call: what the words ask for, from reading the text to writing what it is answered.
+//! The top call: does what the words ask for, from reading the text to writing the output.
 
 ghost use Rattle.std.specs.Prelude.{◌≤◌, length, IfOk, OnOk, IfErr};
 ghost use Rattle.io_ends.specs.Ends.{CountsRead};
@@ -99,8 +99,8 @@ fn run_command<X: Search, S: Source, K: Sink>(
     }
 }
 
-/// All the bytes that the source has left, if the command reads so many; none where it reads none,
-/// and then the source is left alone.
+/// All the bytes that the source has left, if they are no more than the command reads. If it reads
+/// no text, none are read, and the source is left alone.
 fn read_input<S: Source>(
     alloc: Global,
     command: Command,
@@ -111,7 +111,7 @@ fn read_input<S: Source>(
     ensures all { IfOk result (Takes (intake_of command) S.left source.old source.new) }
     ensures end { OnOk result (IsReadOut (intake_of command) S.left source.new) }
 
-    // What was given before the refusal, and more than is read exactly where it is TooLong.
+    // What was given before the refusal; it is TooLong exactly if more was given than is read.
     ensures given { IfErr result (IsGivenUp (intake_of command) S.left source.old source.new) }
     ensures counted { CountsRead result (S.faults source.old) (S.faults source.new) }
 {

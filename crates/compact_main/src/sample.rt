@@ -3,7 +3,7 @@
 
 ghost use Rattle.std.specs.Prelude.{◌≡◌, ◌<◌, ◌≤◌, length, IfOk};
 ghost use Rattle.compact_types.specs.declared.plan.Way.TheVariants as way;
-ghost use Rattle.compact_types.specs.Lookups.{origin, no_piece, along};
+ghost use Rattle.compact_types.specs.Lookups.{origin, no_piece};
 ghost use Rattle.drawing_check.specs.Shapes.{IsShapeOf};
 ghost use Rattle.compact_main.specs.Samples as samples;
 ghost use Rattle.compact_main.specs.Samples.{sample_vertices, sample_place, IsTable, IsSample};
@@ -11,13 +11,13 @@ ghost use Rattle.compact_main.specs.Samples.{sample_pieces, sample_piece, sample
 
 use crate::summary::push_line;
 use bars::{Bars, bars_of};
-use compact_types::{Axis, Items, NoMemory, Piece, Places, Plan, Point, Shape, Way};
+use compact_types::{Axis, Items, NoMemory, Piece, Places, Plan, Point, Shape, Way, coordinate};
 use std::alloc::Global;
 
 /// The most nodes of the spine, so that the drawing has at most 510 vertices.
 pub(crate) const MOST_SAMPLE: u32 = 250;
 
-/// An arm has a hook where its number is a multiple of this.
+/// An arm has a hook if its number is a multiple of this.
 const HOOK_SPACING: u32 = 25;
 
 /// The sample drawing with n nodes on its spine: its segments, and its places in grid steps.
@@ -176,16 +176,6 @@ pub(crate) fn greatest_along(axis: Axis, places: &Places) -> i64
         greatest = greatest.max(coordinate(axis, points[v]));
     }
     greatest
-}
-
-/// The coordinate of a point along the axis.
-fn coordinate(axis: Axis, point: Point) -> i64
-    ensures { result ≡ along axis point }
-{
-    match axis {
-        Axis::X => point.x,
-        Axis::Y => point.y,
-    }
 }
 
 /// The lines that tell of the sample drawing: its size, and the length, the width and the height of

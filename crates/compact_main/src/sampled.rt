@@ -11,8 +11,8 @@ ghost use Rattle.compact_main.specs.inner.Proofs.{CanCheck, CanMeasure};
 
 use crate::sample::{greatest_along, sample_drawing, sample_text};
 use crate::search::{Search, certificate_of};
+use crate::verify::check;
 use bars::Bars;
-use cert_check::check_cert;
 use cert_text::CertTree;
 use compact_types::{Axis, Items, NoMemory, Places, Refusal};
 use potentials::TotalLength;
@@ -41,7 +41,7 @@ fn check_own(alloc: Global, bars: &Bars, places: &Places, tree: &CertTree) -> Re
     requires can { CanCheck bars.now places.now tree.now.nodes }
     requires accepted { Accepts bars.now places.now tree.now.nodes }
 {
-    match check_cert(alloc, bars, places, tree) {
+    match check(alloc, bars, places, tree) {
         Ok(()) => Ok(()),
         Err(Refusal::NoMemory) => Err(NoMemory),
         Err(Refusal::Fault(_fault)) => unreachable!(),

@@ -1,21 +1,24 @@
 //! Whether the certificate of a text shows that its drawing is the best one of its shape.
 
-ghost use Rattle.std.specs.Prelude.{◌≡◌, ◌≤◌, length, IfErr, IfOk};
+ghost use Rattle.std.specs.Prelude.{◌≡◌, ◌≤◌, length, IfErr, IfOk, OnOk};
 ghost use Rattle.compact_types.specs.Refusals.{IfFault};
 ghost use Rattle.compact_types.specs.Scalings.{IsScaled, IsFirstOff};
+ghost use Rattle.cert_text.specs.Accepting.{Accepts};
 ghost use Rattle.cert_text.specs.Certificates.{IsPitch};
+ghost use Rattle.cert_check.specs.Faults.{FirstCheckFault};
 ghost use Rattle.compact_main.specs.Drawings.{step_of};
 ghost use Rattle.compact_main.specs.Intakes.{limit_of};
 ghost use Rattle.compact_main.specs.Outputs as outputs;
 ghost use Rattle.compact_main.specs.Outputs.{IsInput, Output, FirstFault, FirstUnproved};
-ghost use Rattle.compact_main.specs.inner.Proofs.{CanMeasure, IsProvedAt};
+ghost use Rattle.compact_main.specs.inner.Proofs.{CanCheck, IsProvedAt};
 
 use crate::command::Command;
 use crate::drawing::{Drawing, input_of};
 use crate::status::{Failure, Unproved};
-use cert_check::check_cert;
-use cert_text::read_cert;
-use compact_types::{Items, NoMemory, Places, Refusal, scale_down};
+use bars::Bars;
+use cert_check::{CheckFault, check_cert};
+use cert_text::{CertTree, read_cert};
+use compact_types::{Items, NoMemory, Places, Refusal, THOUSANDTHS, scale_down};
 use itoa::Buffer;
 use potentials::TotalLength;
 use shape_graphs::Measure;
@@ -50,7 +53,7 @@ fn proved_length(alloc: Global, bytes: &[u8], drawing: Drawing) -> Result<i64, R
         Ok(places) => places,
         Err(vertex) => return Err(Refusal::Fault(Unproved::NotWhole(vertex))),
     };
-    match check_cert(alloc, &bars, &places, &tree) {
+    match check(alloc, &bars, &places, &tree) {
         Ok(()) => Ok(TotalLength.worth(&bars, &places)),
         Err(refusal) => Err(refusal.map(Unproved::Check)),
     }
@@ -64,8 +67,23 @@ fn grid_places(places: Places, pitch: u32) -> Result<Places, u32>
     ensures off { IfErr result (IsFirstOff (step_of pitch) places) }
 {
     let mut scaled = places;
-    scale_down(&mut scaled, 1_000 * i64::from(pitch))?;
+    scale_down(&mut scaled, THOUSANDTHS * i64::from(pitch))?;
     Ok(scaled)
+}
+
+/// Whether the certificate shows that the places are the best of the shape, or what it does not
+/// show.
+pub(crate) fn check(
+    alloc: Global,
+    bars: &Bars,
+    places: &Places,
+    tree: &CertTree,
+) -> Result<(), Refusal<CheckFault>>
+    requires { CanCheck bars.now places.now tree.now.nodes }
+    ensures accepted { OnOk result (Accepts bars.now places.now tree.now.nodes) }
+    ensures fault { IfFault result (FirstCheckFault bars.now places.now tree.now.nodes) }
+{
+    check_cert(alloc, bars, places, tree)
 }
 
 /// The line that says that a drawing of this length, in grid steps, is proved.

@@ -7,12 +7,12 @@ use Rattle.compact_main.specs.declared.command.Command.TheVariants.{Draw, Check,
 use Rattle.compact_main.specs.Intakes.{Intake}
 use Rattle.compact_main.specs.Intakes.Intake.{a_text, nothing}
 
--- the limit of the text that is read, or none where nothing is
+-- the limit of the text that is read, or none if nothing is read
 abbrev pub IsTextLimit : Intake → Option ℕ → Type 0
 IsTextLimit (a_text limit) given = given ≡ Some limit
 IsTextLimit nothing given = given ≡ None
 
--- what was given before the reading was given up; where nothing is read it never is
+-- what was given before the reading was given up, which it never is if nothing is read
 abbrev pub IsGivenUp : {S : Type 0} →
     Intake → (S → Option (List ℕ)) → S → S → ReadEnd → Type 0
 IsGivenUp (a_text limit) left source source' why = Gave why limit (left source) (left source')

@@ -7,13 +7,12 @@ use Rattle.compact_main.proofs.Refusals.{told}
 use Rattle.compact_main.proofs.ProvedAnswers.{can_check, can_measure}
 use Rattle.compact_main.proofs.verify.proved_length.Goals as goal
 
-pub check_cert-requires : goal.check_cert-requires
-check_cert-requires c =
+pub check-requires : goal.check-requires
+check-requires c =
     let certificate = c.in-Ok.ensures.answer.value in
     let few : length c.in-Ok.found.1.nodes ≤ MOST_BYTES = omega (arith, c.in-Ok.ensures.few, c.requires.within) in
-    let can = can_check c.args.bytes.now c.args.drawing c.requires c.in-Ok.found.0 c.in-Ok.found.1.nodes c.in-Ok-grid_places.places
-    certificate.pitched certificate.tree few c.in-Ok-grid_places.ensures.scaled in
-    record { drawing = can.drawing; near = can.near; whole = can.whole; in_range = can.in_range; shallow = can.shallow }
+    can_check c.args.bytes.now c.args.drawing c.requires c.in-Ok.found.0 c.in-Ok.found.1.nodes c.in-Ok-grid_places.places
+    certificate.pitched certificate.tree few c.in-Ok-grid_places.ensures.scaled
 
 pub worth-requires-clause-near : goal.worth-requires-clause-near
 worth-requires-clause-near c =
@@ -24,7 +23,7 @@ pub returns-clause-unproved : goal.returns-clause-unproved
 returns-clause-unproved c =
     let places = c.in-Ok-grid_places.places in
     let nodes = c.in-Ok.found.1.nodes in
-    told (Unit {0}) ℤ c.in-Err-check_cert.refusal c.map-in-Err-check_cert.result (λ fault. Check fault)
+    told (Unit {0}) ℤ c.in-Err-check.refusal c.map-in-Err-check.result (λ fault. Check fault)
     (IsFirstFlaw c.args.drawing places nodes) (FirstUnproved c.args.bytes.now c.args.drawing)
     (λ fault first. (c.in-Ok.found.0, nodes, c.in-Ok.ensures.answer.value, places, c.in-Ok-grid_places.ensures.scaled, first))
-    c.in-Err-check_cert.ensures.answer.fault c.map-in-Err-check_cert.ensures
+    c.in-Err-check.ensures.fault c.map-in-Err-check.ensures
