@@ -1,6 +1,7 @@
 //! Texts up to the limits and past them.
 
 use crate::status::Why;
+use crate::tests::examples::STAIR_MEASURED;
 use crate::tests::refusals::no_drawing;
 use crate::tests::rows::*;
 use crate::tests::texts::*;
