@@ -30,7 +30,7 @@ use Rattle.compact_main.specs.declared.status.Unproved.{Unproved}
 use Rattle.compact_main.specs.declared.status.Unproved.TheVariants as unproved
 use Rattle.compact_main.specs.Drawings.{shape_of, step_of, AreBestPlaces, IsAccepted, IsFirstFlaw, IsOnGridAt, IsFirstOffGrid}
 use Rattle.compact_main.specs.Outputs.{IsInput, IsProved, FirstUnproved}
-use Rattle.compact_types.specs.Scalings.{IsScaled, IsFirstOff}
+use Rattle.compact_types.specs.Scalings.{IsScaled}
 use Rattle.compact_main.specs.inner.Proofs.{CanCheck, CanMeasure}
 use Rattle.compact_main.proofs.Sound.{is_drawing, sound_shape, within_limits}
 

@@ -1,5 +1,5 @@
 -- What is made of the sample drawing.
-use Rattle.std.proofs.Common.{◌≡◌, ℕ, ◌≤◌, List, [], ◌∷◌, Result, Ok, Err, arith}
+use Rattle.std.proofs.Common.{◌≡◌, ℕ, ◌≤◌, List, Result, Ok, Err, arith}
 use Rattle.std.specs.Prelude.{IfOk}
 use Rattle.std.proofs.lemmas.Int.{ints}
 use Rattle.compact_types.specs.declared.limits.TheConstants.{GREATEST_COORDINATE, GREATEST_PLACE}

@@ -1,5 +1,5 @@
 -- A certificate shows by itself that places are the best: it is accepted, and it is shallow.
-use Rattle.std.proofs.Common.{ℕ, ◌≤◌, List, [], ◌∷◌, Result, Ok, Err, arith}
+use Rattle.std.proofs.Common.{ℕ, List, [], ◌∷◌, Result, Ok, Err, arith}
 use Rattle.std.specs.Prelude.{IfOk}
 use Rattle.compact_types.specs.declared.limits.TheConstants.{MOST_CHOICES}
 use Rattle.compact_types.specs.declared.places.Places.{Places}

@@ -1,7 +1,7 @@
 //! What holds of every text, whether the program was run or not. The bodies are empty: each
 //! contract is a law.
 
-ghost use Rattle.std.specs.Prelude.{◌≡◌, ◌≤◌, ◌↔◌, ℕ, Bool, false, true, List, length};
+ghost use Rattle.std.specs.Prelude.{◌≡◌, ◌≤◌, ◌↔◌, ℕ, Bool, true, List, length};
 ghost use Rattle.compact_types.specs.declared.places.Places.{Places};
 ghost use Rattle.compact_types.specs.declared.plan.Shape.{Shape};
 ghost use Rattle.compact_types.specs.Bests.{IsBest};

@@ -1,7 +1,7 @@
 //! The line for a run that was not done. Each part says how long it is at most, so that every line
 //! fits into a note.
 
-ghost use Rattle.std.specs.Prelude.{◌≡◌, ◌+◌, ◌≤◌, ◌++◌, length, codes, decimal};
+ghost use Rattle.std.specs.Prelude.{◌≡◌, ◌+◌, ◌≤◌, ◌++◌, length, codes};
 ghost use Rattle.compact_main.specs.Notes.{note_text, status_text, why_text, IsNoted};
 ghost use Rattle.compact_main.specs.Notes.{kind_text, cause_text, draw_text, shape_text};
 ghost use Rattle.compact_main.specs.Notes.{pair_text, meeting_text, around};

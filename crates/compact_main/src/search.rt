@@ -19,8 +19,8 @@ use potentials::TotalLength;
 use std::alloc::Global;
 use workers::{Best, search_alone};
 
-/// A search for the drawing of least total length. Every search finds the same places, so what the
-/// program writes does not depend on which one it is given.
+/// A search for the drawing of least total length. Every search finds the same places; their boards
+/// may make different certificates.
 pub trait Search {
     /// The best key of the shape, in grid steps, and a finished board that shows it. The search
     /// begins with the places, which are a drawing of the shape.

@@ -10,8 +10,8 @@ use crate::command::Command;
 use crate::options::{Options, form_of, has_too_many, is_text, number_of, options_of};
 use crate::sample::MOST_SAMPLE;
 
-/// What the words ask for. How the command is carried out, and not what it writes, belongs beside
-/// it.
+/// What the words ask for: a command. What does not change the output, as a number of workers,
+/// belongs beside the command and not in it.
 #[derive(Clone, Copy, Debug)]
 pub struct Request {
     pub command: Command,
@@ -28,7 +28,7 @@ pub(crate) fn request_of(words: &[String]) -> Option<Request>
     }
 }
 
-/// The command with these options.
+/// The request of this word and these options.
 fn request_with(command: &str, options: &[String]) -> Option<Request>
     ensures { IsRequest (command.now ∷ texts_of options.now) result }
 {
@@ -44,7 +44,7 @@ fn request_with(command: &str, options: &[String]) -> Option<Request>
     lone_command(command)
 }
 
-/// The command that is one word, and is not `draw`.
+/// The request that is one word, and is not `draw`.
 #[tactic(auto, using(crate::proofs::CommandWords::no_such_command))]
 fn lone_command(command: &str) -> Option<Request>
     requires { command.now ≡ codes "draw" → ⊥ }

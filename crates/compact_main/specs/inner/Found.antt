@@ -1,5 +1,4 @@
 -- Drawings that were read, and what a search has found for one.
-use Rattle.std.specs.Prelude.{◌≡◌, List}
 use Rattle.compact_types.specs.declared.plan.Shape.{Shape}
 use Rattle.compact_types.specs.declared.search.Flows.{Flows}
 use Rattle.compact_types.specs.Bests.{total_length, IsBest}
