@@ -13,7 +13,8 @@ use Rattle.compact_types.specs.declared.refusal.Refusal.TheVariants.{Fault, NoMe
 use Rattle.compact_types.specs.declared.search.Choice.{Choice}
 use Rattle.compact_types.specs.declared.search.Flow.{Flow}
 use Rattle.compact_types.specs.declared.search.Flows.{Flows}
-use Rattle.compact_types.specs.Lengths.{length_of}
+use Rattle.compact_types.specs.Bests.{worth_of}
+use Rattle.compact_types.specs.Bests.Objective.{total_length}
 use Rattle.compact_types.specs.Refusals.{IfFault}
 use Rattle.bars.specs.Segments.{node_count}
 use Rattle.shape_graphs.specs.declared.graph.Arc.{Arc}
@@ -26,7 +27,7 @@ use Rattle.diff_flow.specs.Amounts.{IsFirstUnbalanced}
 use Rattle.cert_text.specs.declared.tree.Load.{Load}
 use Rattle.cert_text.specs.Accepting.{AreOnArcs, IsGoodBound, flows_of}
 use Rattle.cert_text.specs.Loads.{IsLoad, amount_on, amounts_of}
-use Rattle.cert_check.specs.declared.branch.Branch.{Branch}
+use Rattle.shape_graphs.specs.declared.growing.GrowingGraphs.{GrowingGraphs}
 use Rattle.cert_check.specs.declared.fault.CheckFault.{CheckFault}
 use Rattle.cert_check.specs.declared.fault.CheckFault.TheVariants.{WeakBound}
 use Rattle.cert_check.specs.Faults.{AreBothOnArcs, IsBoundFault, IsEarlierAt, IsFirstOffArcs}
@@ -120,7 +121,7 @@ module _ (axis : Axis) (shape : Shape) (choices : List Choice) (graph : DiffGrap
   }
 
 -- the bound of the flows of a branch
-module _ (shape : Shape) (branch : Branch) (flows : HasFlows shape branch) where
+module _ (shape : Shape) (branch : GrowingGraphs) (flows : HasFlows shape branch) where
   pub bound_is : bound_of branch.columns.graph.arcs branch.columns.flow.amounts +ℤ bound_of branch.rows.graph.arcs branch.rows.flow.amounts
       ≡ bound_by shape branch.choices (flows_on branch)
   bound_is =
@@ -133,13 +134,13 @@ module _ (shape : Shape) (branch : Branch) (flows : HasFlows shape branch) where
   both_balanced x y Y = balanced_here Y shape branch.choices branch.rows.graph flows.rows branch.rows.flow flows.up y
 
   pub weak_low : (places : Places) (entry : ℕ) (bound : ℤ) → bound ≡ bound_by shape branch.choices (flows_on branch) →
-      bound <ℤ length_of shape.plan places → IsWeak shape branch.choices (flows_on branch) places entry (WeakBound entry bound None)
+      bound <ℤ worth_of total_length shape places → IsWeak shape branch.choices (flows_on branch) places entry (WeakBound entry bound None)
   weak_low places entry bound is less =
       subst (λ (z : ℤ). IsWeak shape branch.choices (flows_on branch) places entry (WeakBound entry z None)) (sym is)
       (below_length (omega (arith, ints, is, less)))
 
   pub weak_late : (places : Places) (entry : ℕ) (bound : ℤ) (vertex : ℕ) → bound ≡ bound_by shape branch.choices (flows_on branch) →
-      bound ≡ length_of shape.plan places → IsEarlierAt shape branch.choices (flows_on branch) places vertex →
+      bound ≡ worth_of total_length shape places → IsEarlierAt shape branch.choices (flows_on branch) places vertex →
       IsWeak shape branch.choices (flows_on branch) places entry (WeakBound entry bound (Some vertex))
   weak_late places entry bound vertex is same earlier =
       subst (λ (z : ℤ). IsWeak shape branch.choices (flows_on branch) places entry (WeakBound entry z (Some vertex))) (sym is)

@@ -1,11 +1,9 @@
 -- Lists of points in their order, and the least tight places of a branch.
 use Rattle.std.proofs.Common.{◌≡◌, ℕ, zero, suc, ◌+◌, ◌<◌, ◌≤◌, ℤ, List, [], ◌∷◌, length, map, Option, Some, None, ◌⊎◌, inl, inr, sym, ap, subst, ◌∙◌, arith}
 use Rattle.std.specs.Prelude.{MatchOption}
-use Rattle.std.specs.List.{range_with_len}
 use Rattle.std.proofs.lemmas.Int.{ints}
 use Rattle.std.proofs.lemmas.Bool.{cases_lt}
 use Rattle.std.proofs.lemmas.List.{ext_get_or}
-use Rattle.std.proofs.lemmas.List.FromFn.{get_or-map-range_with_len, length-map-range_with_len}
 use Rattle.compact_types.specs.declared.places.Axis.{Axis}
 use Rattle.compact_types.specs.declared.places.Axis.TheVariants.{X, Y}
 use Rattle.compact_types.specs.declared.places.Places.{Places}
@@ -20,16 +18,18 @@ use Rattle.bars.specs.Segments.{node_count, node_of}
 use Rattle.bars.specs.Solutions.{Fit, IsSound}
 use Rattle.shape_graphs.specs.Backings.{flow_of}
 use Rattle.shape_graphs.specs.Graphs.{arcs_of}
-use Rattle.diff_flow.specs.Tight.{AreLeastTight, AreTight, number_at}
-use Rattle.potentials.specs.Standing.{StandAt}
+use Rattle.shape_graphs.specs.Flows.{number_at}
+use Rattle.shape_graphs.proofs.Laws.{places_by}
+use Rattle.diff_flow.specs.Tight.{AreLeastTight, AreTight}
+use Rattle.potentials.specs.Standing.{StandAt, numbers_along}
 use Rattle.potentials.specs.TightPlaces.{AreLeastTightPlaces}
-use Rattle.potentials.proofs.Laws.{least_tight_places, none_where_none}
+use Rattle.potentials.proofs.Laws.{least_tight_places, none_where_none, places_by_stand}
 use Rattle.shape_graphs.specs.declared.graph.Arc.{Arc}
 use Rattle.shape_graphs.specs.declared.graph.DiffGraph.{DiffGraph}
 use Rattle.shape_graphs.specs.Graphs.{IsGraphOf}
+use Rattle.cert_text.specs.Accepting.{NoneEarlier}
 use Rattle.cert_check.specs.Faults.{IsEarlierAt}
-use Rattle.cert_check.specs.inner.Comparing.{AreSameBelow, IsFirstLess, IsNotFirstLess, numbers_by}
-use Rattle.cert_check.specs.inner.Flowing.{NoneEarlier}
+use Rattle.cert_check.specs.inner.Comparing.{AreSameBelow, IsFirstLess, IsNotFirstLess}
 use Rattle.cert_check.proofs.FaultLemmas.{one_least}
 
 -- a point is not before itself
@@ -55,7 +55,7 @@ less_from_first (p ∷ points) (q ∷ others) (suc v) inside there same less =
     )
 
 -- where a vertex stands by its numbers
-pub stands_at : (shape : Shape) (across up : List ℤ) (places : Places) (v : ℕ) (point : Point) → StandAt shape (numbers_by across up) places →
+pub stands_at : (shape : Shape) (across up : List ℤ) (places : Places) (v : ℕ) (point : Point) → StandAt shape (numbers_along across up) places →
     v < shape.plan.vertices → point.x ≡ number_at across (node_of X shape v) → point.y ≡ number_at up (node_of Y shape v) → place places.xy v ≡ point
 stands_at shape across up places v point stand inside x y =
     same_point (place places.xy v) point (stand.each X v inside ∙ sym x) (stand.each Y v inside ∙ sym y)
@@ -109,29 +109,19 @@ module _ (shape : Shape) (choices : List Choice) (sound : IsSound shape) (fit : 
 
   -- the places of the least tight numbers
   module _ (across up : List ℤ) where
-    abbrev point_at : ℕ → Point
-    point_at v = record { x = number_at across (node_of X shape v); y = number_at up (node_of Y shape v) }
-
     abbrev made : Places
-    made = record { xy = map point_at (range_with_len 0 shape.plan.vertices) }
+    made = places_by shape (numbers_along across up)
 
-    made_at : (v : ℕ) → v < shape.plan.vertices → place made.xy v ≡ point_at v
-    made_at v inside = let is : 0 + v ≡ v = omega arith in get_or-map-range_with_len point_at 0 shape.plan.vertices v v origin inside is
-
-    made_stands : StandAt shape (numbers_by across up) made
-    made_stands = record { places_fit = length-map-range_with_len point_at 0 shape.plan.vertices; each = by_axis }
-      where
-        by_axis : (axis : Axis) (v : ℕ) → v < shape.plan.vertices → along axis (place made.xy v) ≡ numbers_by across up axis (node_of axis shape v)
-        by_axis X v inside = ap (λ (p : Point). p.x) (made_at v inside)
-        by_axis Y v inside = ap (λ (p : Point). p.y) (made_at v inside)
+    made_stands : StandAt shape (numbers_along across up) made
+    made_stands = places_by_stand shape (numbers_along across up)
 
     module _ (columns rows : DiffGraph) (is_columns : IsGraphOf X shape choices columns) (is_rows : IsGraphOf Y shape choices rows)
         (x : AreLeastTight columns.nodes columns.arcs flows.x.amounts (number_at across))
         (y : AreLeastTight rows.nodes rows.arcs flows.y.amounts (number_at up)) where
       made_least : AreLeastTightPlaces shape choices flows made
-      made_least = least_tight_places shape choices sound fit flows (numbers_by across up) made made_stands by_axis
+      made_least = least_tight_places shape choices sound fit flows (numbers_along across up) made made_stands by_axis
         where
-          by_axis : (axis : Axis) → AreLeastTight (node_count axis shape) (arcs_of axis shape choices) (flow_of axis flows).amounts (numbers_by across up axis)
+          by_axis : (axis : Axis) → AreLeastTight (node_count axis shape) (arcs_of axis shape choices) (flow_of axis flows).amounts (numbers_along across up axis)
           by_axis X = subst (λ (n : ℕ). AreLeastTight n (arcs_of X shape choices) flows.x.amounts (number_at across)) is_columns.nodes
               (subst (λ (arcs : List Arc). AreLeastTight columns.nodes arcs flows.x.amounts (number_at across)) is_columns.arcs x)
           by_axis Y = subst (λ (n : ℕ). AreLeastTight n (arcs_of Y shape choices) flows.y.amounts (number_at up)) is_rows.nodes
@@ -139,7 +129,7 @@ module _ (shape : Shape) (choices : List Choice) (sound : IsSound shape) (fit : 
 
       -- whether these come before the drawing
       pub earlier_from_numbers : length places.xy ≡ shape.plan.vertices → (found : Option ℕ) →
-          ((others : Places) → StandAt shape (numbers_by across up) others →
+          ((others : Places) → StandAt shape (numbers_along across up) others →
           MatchOption found (IsNotFirstLess others.xy places.xy) (IsFirstLess others.xy places.xy)) →
           MatchOption found (NoneEarlier shape choices flows places) (IsEarlierAt shape choices flows places)
       earlier_from_numbers fits None says = λ least tight before.

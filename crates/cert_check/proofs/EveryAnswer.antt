@@ -11,7 +11,7 @@ use Rattle.compact_types.specs.declared.search.Choice.{Choice}
 use Rattle.compact_types.specs.declared.search.Flows.{Flows}
 use Rattle.compact_types.specs.Bests.Objective.{total_length}
 use Rattle.compact_types.specs.Drawings.{IsDrawing, IsFromZero}
-use Rattle.compact_types.specs.Lengths.{length_of}
+use Rattle.compact_types.specs.Bests.{worth_of}
 use Rattle.compact_types.specs.Lookups.{place}
 use Rattle.compact_types.specs.Orders.{IsListBefore, IsPointBefore, numbers_of}
 use Rattle.compact_types.specs.Refusals.{HasOneAnswer}
@@ -28,7 +28,7 @@ use Rattle.potentials.proofs.Laws.{bound_at_tight, some_least_key, worth_above}
 use Rattle.cert_text.specs.declared.tree.CertNode.{CertNode}
 use Rattle.cert_text.specs.declared.tree.CertNode.TheVariants.{Split, Bound, Cycle}
 use Rattle.cert_text.specs.declared.tree.Load.{Load}
-use Rattle.cert_text.specs.Accepting.{Accepts, AreGood, AreOnArcs, IsGoodBound, IsGoodEntry, flows_of, opened_by}
+use Rattle.cert_text.specs.Accepting.{Accepts, AreGood, AreOnArcs, IsGoodBound, IsGoodEntry, flows_of, opened_by, NoneEarlier}
 use Rattle.cert_text.specs.Loads.{IsInRange, IsLoad}
 use Rattle.cert_text.specs.Trees.{IsShallow, IsWhole}
 use Rattle.cert_text.proofs.Laws.{tight_from_least}
@@ -38,8 +38,7 @@ use Rattle.cert_check.specs.Faults.{AreBothOnArcs, FirstCheckFault, IsBoundFault
 use Rattle.cert_check.specs.Faults.IsBoundFault.{no_x_arc, no_y_arc, x_unbalanced, y_unbalanced, too_low, too_late}
 use Rattle.cert_check.specs.inner.Branches.{HasRoom}
 use Rattle.cert_check.specs.inner.Comparing.{AreSameBelow}
-use Rattle.cert_check.specs.inner.Flowing.{NoneEarlier}
-use Rattle.cert_check.proofs.BranchLemmas.{fit_more}
+use Rattle.shape_graphs.proofs.Laws.{fit_more}
 use Rattle.cert_check.proofs.CompareLemmas.{first_is_greater, less_from_first, not_before_itself, same_is_not_less}
 use Rattle.cert_check.proofs.Deciding.{IsFirst, all_or_first, balanced_or_not, compare_points, cycle_or_break, flow_is, from_zero_decided, on_or_off, pair_decided}
 use Rattle.cert_check.proofs.DecisionLemmas.{no_fault, only_fault}
@@ -131,13 +130,13 @@ module _ (shape : Shape) (choices : List Choice) (sound : IsSound shape) (fit : 
 
     module _ (on : AreBothOnArcs shape choices x y) where
       module _ (balanced : AreBalanced shape choices flows) where
-        by_lists : bound_by shape choices flows ≡ length_of shape.plan places →
+        by_lists : bound_by shape choices flows ≡ worth_of total_length shape places →
             NoneEarlier shape choices flows places ⊎ ((vertex : ℕ) × IsEarlierAt shape choices flows places vertex) → BoundAnswer
         by_lists same (inl none) = inl (record { x_arcs = on.x_arcs; y_arcs = on.y_arcs; balanced = balanced; bounds = inr (same, none) })
         by_lists same (inr earlier) = inr (_, too_late earlier.0 on balanced same earlier.1)
 
-        by_bound : (bound_by shape choices flows <ℤ length_of shape.plan places)
-            ⊎ ((bound_by shape choices flows ≡ length_of shape.plan places) ⊎ (length_of shape.plan places <ℤ bound_by shape choices flows)) → BoundAnswer
+        by_bound : (bound_by shape choices flows <ℤ worth_of total_length shape places)
+            ⊎ ((bound_by shape choices flows ≡ worth_of total_length shape places) ⊎ (worth_of total_length shape places <ℤ bound_by shape choices flows)) → BoundAnswer
         by_bound (inl less) = inr (_, too_low on balanced less)
         by_bound (inr (inl same)) = by_lists same (earlier_or_none flows balanced)
         by_bound (inr (inr more)) = inl (record { x_arcs = on.x_arcs; y_arcs = on.y_arcs; balanced = balanced; bounds = inl more })
@@ -146,7 +145,7 @@ module _ (shape : Shape) (choices : List Choice) (sound : IsSound shape) (fit : 
           IsBalanced Y shape choices flows.y ⊎ ((node : ℕ) × IsUnbalancedAt Y shape choices flows node) → BoundAnswer
       by_balance (inr off) up = inr (_, x_unbalanced off.0 on off.1)
       by_balance (inl across) (inr off) = inr (_, y_unbalanced off.0 on across off.1)
-      by_balance (inl across) (inl up) = by_bound both (compare_numbers (bound_by shape choices flows) (length_of shape.plan places))
+      by_balance (inl across) (inl up) = by_bound both (compare_numbers (bound_by shape choices flows) (worth_of total_length shape places))
         where
           both : AreBalanced shape choices flows
           both X = across

@@ -11,7 +11,8 @@ use Rattle.compact_types.specs.declared.places.Places.{Places}
 use Rattle.compact_types.specs.declared.plan.Shape.{Shape}
 use Rattle.compact_types.specs.declared.search.Choice.{Choice}
 use Rattle.compact_types.specs.declared.search.Flows.{Flows}
-use Rattle.compact_types.specs.Lengths.{length_of}
+use Rattle.compact_types.specs.Bests.{worth_of}
+use Rattle.compact_types.specs.Bests.Objective.{total_length}
 use Rattle.compact_types.specs.Lookups.{origin, place}
 use Rattle.compact_types.proofs.Laws.{same_point}
 use Rattle.shape_graphs.specs.declared.graph.Arc.{Arc}
@@ -127,13 +128,13 @@ module _ (shape : Shape) (choices : List Choice) (places : Places) (entry : ℕ)
   IsLoose axis fault = (node : ℕ) × IsUnbalancedAt axis shape choices flows node × (fault ≡ Unbalanced entry axis node)
 
   abbrev IsLow : CheckFault → Type 0
-  IsLow fault = (bound <ℤ length_of shape.plan places) × (fault ≡ WeakBound entry bound None)
+  IsLow fault = (bound <ℤ worth_of total_length shape places) × (fault ≡ WeakBound entry bound None)
 
   abbrev IsLate : CheckFault → Type 0
   IsLate fault = (vertex : ℕ) × IsEarlierAt shape choices flows places vertex × (fault ≡ WeakBound entry bound (Some vertex))
 
   abbrev FromBound : CheckFault → Type 0
-  FromBound = IsOfStage IsLow (bound ≡ length_of shape.plan places) IsLate
+  FromBound = IsOfStage IsLow (bound ≡ worth_of total_length shape places) IsLate
 
   abbrev FromRows : CheckFault → Type 0
   FromRows = IsOfStage (IsLoose Y) (AreBalanced shape choices flows) FromBound
@@ -172,7 +173,7 @@ module _ (shape : Shape) (choices : List Choice) (places : Places) (entry : ℕ)
   never_y : (fault : CheckFault) → IsLoose Y fault → AreBalanced shape choices flows → ⊥
   never_y fault loose balanced = loose.1.unbalanced ((balanced Y).balances.each loose.0 loose.1.inside)
 
-  never_low : (fault : CheckFault) → IsLow fault → bound ≡ length_of shape.plan places → ⊥
+  never_low : (fault : CheckFault) → IsLow fault → bound ≡ worth_of total_length shape places → ⊥
   never_low fault low same = let less = low.0 in omega (arith, ints, less, same)
 
   only_late : IsOnly IsLate

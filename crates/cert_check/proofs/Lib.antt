@@ -6,8 +6,6 @@ pub mod CompareLemmas
 pub mod ZeroLemmas
 pub mod CycleLemmas
 pub mod BoundLemmas
-pub mod TestLemmas
-pub mod ArcLemmas
 pub mod Deciding
 pub mod EveryAnswer
 pub mod Laws

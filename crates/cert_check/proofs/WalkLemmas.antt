@@ -10,11 +10,12 @@ use Rattle.compact_types.specs.declared.search.Choice.{Choice}
 use Rattle.cert_text.specs.declared.tree.CertNode.{CertNode}
 use Rattle.cert_text.specs.declared.tree.CertNode.TheVariants.{Split, Bound, Cycle}
 use Rattle.cert_text.specs.Accepting.{AreGood, IsGoodEntry, opened_by}
-use Rattle.cert_text.specs.Trees.{AreShallow, IsShallow, IsWhole, branches_of, depths_opened, left_after}
+use Rattle.cert_text.specs.Trees.{AreShallow, IsShallow, IsWhole, depths_opened, left_after}
+use Rattle.cert_text.proofs.Laws.{opened_count}
 use Rattle.cert_check.specs.declared.fault.CheckFault.{CheckFault}
 use Rattle.cert_check.specs.Faults.{IsEntryFault, IsFirstIn}
 use Rattle.cert_check.specs.inner.Branches.{HasRoom, IsNext}
-use Rattle.cert_check.specs.declared.branch.Branch.{Branch}
+use Rattle.shape_graphs.specs.declared.growing.GrowingGraphs.{GrowingGraphs}
 
 -- how many choices each branch has
 abbrev pub depths_of : List (List Choice) → List ℕ
@@ -39,12 +40,6 @@ at_start shape places nodes whole shallow = record {
   good = λ good. good;
   fault = λ fault first. first;
 }
-
-opened_count : (node : CertNode) (choices : List Choice) (branches : List (List Choice)) →
-    length (opened_by node choices ++ branches) ≡ branches_of node + length branches
-opened_count (Split s t) choices branches = omega arith
-opened_count (Bound x y) choices branches = omega arith
-opened_count (Cycle axis arcs) choices branches = omega arith
 
 opened_depths : (node : CertNode) (choices : List Choice) (branches : List (List Choice)) →
     depths_of (opened_by node choices ++ branches) ≡ depths_opened node (length choices) ++ depths_of branches
@@ -148,12 +143,12 @@ not_past_the_end shape places nodes entry choices branches last before =
     some_entry shape places nodes entry choices branches (subst (λ (rest : List CertNode). IsOnTheWay shape places nodes entry (choices ∷ branches) rest) none before)
 
 -- the branch that is next, where there is one, and the end
-pub next_is : (shape : Shape) (branches : List (List Choice)) (branch : Branch) (more : Bool) → more ≡ true →
+pub next_is : (shape : Shape) (branches : List (List Choice)) (branch : GrowingGraphs) (more : Bool) → more ≡ true →
     MatchBool more (IsNext shape branches branch) (branches ≡ []) → IsNext shape branches branch
 next_is shape branches branch true is says = says
 next_is shape branches branch false is says = absurd (let no : false ≡ true = is in cc)
 
-pub none_is_next : (shape : Shape) (branches : List (List Choice)) (branch : Branch) (more : Bool) → more ≡ false →
+pub none_is_next : (shape : Shape) (branches : List (List Choice)) (branch : GrowingGraphs) (more : Bool) → more ≡ false →
     MatchBool more (IsNext shape branches branch) (branches ≡ []) → branches ≡ []
 none_is_next shape branches branch true is says = absurd (let no : true ≡ false = is in cc)
 none_is_next shape branches branch false is says = says

@@ -7,7 +7,8 @@ use Rattle.compact_types.specs.declared.plan.Shape.{Shape}
 use Rattle.compact_types.specs.declared.search.Choice.{Choice}
 use Rattle.compact_types.specs.declared.search.Flows.{Flows}
 use Rattle.compact_types.specs.Drawings.{IsFromZero}
-use Rattle.compact_types.specs.Lengths.{length_of}
+use Rattle.compact_types.specs.Bests.{worth_of}
+use Rattle.compact_types.specs.Bests.Objective.{total_length}
 use Rattle.compact_types.specs.Lookups.{place}
 use Rattle.compact_types.specs.Orders.{IsListBefore, numbers_of}
 use Rattle.bars.specs.Segments.{IsPair, node_count}
@@ -78,12 +79,12 @@ pub data IsBoundFault (shape : Shape) (choices : List Choice) (places : Places) 
       IsBoundFault shape choices places entry x y (Unbalanced entry Y node)
   too_low : AreBothOnArcs shape choices x y →
       AreBalanced shape choices (flows_of shape choices x y) →
-      bound_by shape choices (flows_of shape choices x y) <ℤ length_of shape.plan places →
+      bound_by shape choices (flows_of shape choices x y) <ℤ worth_of total_length shape places →
       IsBoundFault shape choices places entry x y
       (WeakBound entry (bound_by shape choices (flows_of shape choices x y)) None)
   too_late : (vertex : ℕ) → AreBothOnArcs shape choices x y →
       AreBalanced shape choices (flows_of shape choices x y) →
-      bound_by shape choices (flows_of shape choices x y) ≡ length_of shape.plan places →
+      bound_by shape choices (flows_of shape choices x y) ≡ worth_of total_length shape places →
       IsEarlierAt shape choices (flows_of shape choices x y) places vertex →
       IsBoundFault shape choices places entry x y
       (WeakBound entry (bound_by shape choices (flows_of shape choices x y)) (Some vertex))

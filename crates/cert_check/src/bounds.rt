@@ -1,6 +1,6 @@
 //! Whether two flows show that no drawing of a branch comes before the drawing at hand.
 
-ghost use Rattle.std.specs.Prelude.{◌≡◌, ◌^◌, ◌+ℤ◌, ◌<ℤ◌, ◌≤ℤ◌, pos, All};
+ghost use Rattle.std.specs.Prelude.{◌≡◌, ◌+ℤ◌, ◌<ℤ◌, ◌≤ℤ◌, pos, All};
 ghost use Rattle.std.specs.Prelude.{MatchOption, OnOk};
 ghost use Rattle.compact_types.specs.Refusals.{IfFault};
 ghost use Rattle.bars.specs.Solutions.{Fit};
@@ -15,9 +15,7 @@ ghost use Rattle.cert_check.specs.inner.Branches.{IsAnswer, IsAt};
 ghost use Rattle.cert_check.specs.inner.Flowing.{DoBalanceAndBound, HasFlows, IsFlowFault, IsWeak};
 ghost use Rattle.cert_check.specs.inner.Flowing.{flows_on};
 
-use crate::along::Along;
 use crate::answer::Answer;
-use crate::branch::Branch;
 use crate::earlier::earlier;
 use crate::fault::CheckFault;
 use crate::loads::{clear, first_off_arcs, put};
@@ -25,6 +23,7 @@ use bars::Bars;
 use cert_text::Load;
 use compact_types::{Axis, Refusal};
 use diff_flow::{balanced, bound};
+use shape_graphs::GrowingGraphs;
 use std::alloc::Global;
 
 /// Checks the flows with these loads on the graphs of the branch, and leaves the graphs with
@@ -32,20 +31,20 @@ use std::alloc::Global;
 pub(crate) fn check_bound(
     alloc: Global,
     bars: &Bars,
-    answer: &Answer,
-    branch: &mut Branch,
+    answer: &Answer<'_>,
+    branch: &mut GrowingGraphs,
     entry: u64,
     x: &[Load],
     y: &[Load],
 ) -> Result<(), Refusal<CheckFault>>
-    requires answer { IsAnswer bars.now answer.now }
+    requires answer { IsAnswer bars.now answer.now.places.now answer.now.length }
     requires at { IsAt bars.now branch.old }
     requires x { All IsLoad x.now }
     requires y { All IsLoad y.now }
     ensures good { OnOk result
-        (IsGoodBound bars.now branch.old.choices answer.now.places x.now y.now) }
+        (IsGoodBound bars.now branch.old.choices answer.now.places.now x.now y.now) }
     ensures fault { IfFault result
-        (IsBoundFault bars.now branch.old.choices answer.now.places entry x.now y.now) }
+        (IsBoundFault bars.now branch.old.choices answer.now.places.now entry x.now y.now) }
     ensures at { IsAt bars.now branch.new }
     ensures choices { branch.new.choices ≡ branch.old.choices }
 {
@@ -67,17 +66,17 @@ pub(crate) fn check_bound(
 fn check_flows(
     alloc: Global,
     bars: &Bars,
-    answer: &Answer,
-    branch: &Branch,
+    answer: &Answer<'_>,
+    branch: &GrowingGraphs,
     entry: u64,
 ) -> Result<(), Refusal<CheckFault>>
-    requires answer { IsAnswer bars.now answer.now }
+    requires answer { IsAnswer bars.now answer.now.places.now answer.now.length }
     requires fit { Fit bars.now branch.now.choices }
     requires flows { HasFlows bars.now branch.now }
     ensures good { OnOk result (DoBalanceAndBound bars.now branch.now.choices
-        (flows_on branch.now) answer.now.places) }
+        (flows_on branch.now) answer.now.places.now) }
     ensures fault { IfFault result (IsFlowFault bars.now branch.now.choices
-        (flows_on branch.now) answer.now.places entry) }
+        (flows_on branch.now) answer.now.places.now entry) }
 {
     if let Err(node) = balanced(&branch.columns.graph, &branch.columns.flow) {
         return Err(unbalanced(entry, Axis::X, node));
@@ -93,17 +92,17 @@ fn check_flows(
 fn check_strength(
     alloc: Global,
     bars: &Bars,
-    answer: &Answer,
-    branch: &Branch,
+    answer: &Answer<'_>,
+    branch: &GrowingGraphs,
     entry: u64,
 ) -> Result<(), Refusal<CheckFault>>
-    requires answer { IsAnswer bars.now answer.now }
+    requires answer { IsAnswer bars.now answer.now.places.now answer.now.length }
     requires fit { Fit bars.now branch.now.choices }
     requires flows { HasFlows bars.now branch.now }
     ensures good { OnOk result (DoBound bars.now branch.now.choices
-        (flows_on branch.now) answer.now.places) }
+        (flows_on branch.now) answer.now.places.now) }
     ensures fault { IfFault result (IsWeak bars.now branch.now.choices
-        (flows_on branch.now) answer.now.places entry) }
+        (flows_on branch.now) answer.now.places.now entry) }
 {
     match if_not_above(bound_of_branch(branch), answer.length) {
         None => Ok(()),
@@ -115,25 +114,25 @@ fn check_strength(
 fn check_low(
     alloc: Global,
     bars: &Bars,
-    answer: &Answer,
-    branch: &Branch,
+    answer: &Answer<'_>,
+    branch: &GrowingGraphs,
     entry: u64,
     bound: i64,
 ) -> Result<(), Refusal<CheckFault>>
-    requires answer { IsAnswer bars.now answer.now }
+    requires answer { IsAnswer bars.now answer.now.places.now answer.now.length }
     requires fit { Fit bars.now branch.now.choices }
     requires flows { HasFlows bars.now branch.now }
     requires value { bound ≡ bound_by bars.now branch.now.choices (flows_on branch.now) }
     requires low { bound ≤ℤ answer.now.length }
     ensures good { OnOk result (DoBound bars.now branch.now.choices
-        (flows_on branch.now) answer.now.places) }
+        (flows_on branch.now) answer.now.places.now) }
     ensures fault { IfFault result (IsWeak bars.now branch.now.choices
-        (flows_on branch.now) answer.now.places entry) }
+        (flows_on branch.now) answer.now.places.now entry) }
 {
     if bound < answer.length {
         return Err(weak(entry, bound, None));
     }
-    match earlier(alloc, bars, &answer.places, branch)? {
+    match earlier(alloc, bars, answer.places, branch)? {
         None => Ok(()),
         Some(vertex) => Err(weak(entry, bound, Some(vertex))),
     }
@@ -152,7 +151,7 @@ fn if_not_above(bound: i128, length: i64) -> Option<i64>
 }
 
 /// The bounds of both flows together.
-fn bound_of_branch(branch: &Branch) -> i128
+fn bound_of_branch(branch: &GrowingGraphs) -> i128
     requires across { IsFlowOn branch.now.columns.graph.arcs branch.now.columns.flow.amounts }
     requires up { IsFlowOn branch.now.rows.graph.arcs branch.now.rows.flow.amounts }
     ensures value { result
@@ -160,17 +159,8 @@ fn bound_of_branch(branch: &Branch) -> i128
         +ℤ bound_of branch.now.rows.graph.arcs branch.now.rows.flow.amounts }
     ensures low { pos 0 ≤ℤ result }
 {
-    bound_along(&branch.columns) + bound_along(&branch.rows)
-}
-
-/// The bound of the flow.
-fn bound_along(along: &Along) -> i128
-    requires { IsFlowOn along.now.graph.arcs along.now.flow.amounts }
-    ensures value { result ≡ bound_of along.now.graph.arcs along.now.flow.amounts }
-    ensures low { pos 0 ≤ℤ result }
-    ensures high { result ≤ℤ pos (2 ^ 100) }
-{
-    bound(&along.graph, &along.flow)
+    bound(&branch.columns.graph, &branch.columns.flow)
+        + bound(&branch.rows.graph, &branch.rows.flow)
 }
 
 /// That a bound names an arc that the graph of the axis lacks.

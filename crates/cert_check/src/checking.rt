@@ -1,7 +1,7 @@
 //! The check of a certificate.
 
 ghost use Rattle.std.specs.Prelude.{All, OnOk};
-ghost use Rattle.compact_types.specs.declared.limits.TheConstants.{GREATEST_COORDINATE};
+ghost use Rattle.compact_types.specs.declared.limits.TheConstants.{GREATEST_THOUSANDTHS};
 ghost use Rattle.compact_types.specs.declared.limits.TheConstants.{MOST_CHOICES};
 ghost use Rattle.compact_types.specs.Bests.{IsBest};
 ghost use Rattle.compact_types.specs.Bests.Objective.{total_length};
@@ -13,12 +13,14 @@ ghost use Rattle.cert_text.specs.Loads.{IsInRange};
 ghost use Rattle.cert_text.specs.Trees.{IsShallow, IsWhole};
 ghost use Rattle.cert_check.specs.Faults.{FirstCheckFault};
 
-use crate::answer::{is_from_zero, measured};
+use crate::answer::{Answer, is_from_zero};
 use crate::fault::CheckFault;
 use crate::walk::walk;
 use bars::Bars;
 use cert_text::CertTree;
 use compact_types::{Places, Refusal};
+use potentials::TotalLength;
+use shape_graphs::Measure;
 use std::alloc::Global;
 
 /// Whether the certificate shows that the drawing is the best one of its shape; or else its first
@@ -30,7 +32,7 @@ pub fn check_cert(
     tree: &CertTree,
 ) -> Result<(), Refusal<CheckFault>>
     requires drawing { IsDrawing bars.now places.now }
-    requires near { AreWithin GREATEST_COORDINATE places.now }
+    requires near { AreWithin GREATEST_THOUSANDTHS places.now }
     requires whole { IsWhole tree.now.nodes }
     requires in_range { All IsInRange tree.now.nodes }
     requires shallow { IsShallow MOST_CHOICES tree.now.nodes }
@@ -42,6 +44,13 @@ pub fn check_cert(
     if !is_from_zero(places) {
         return Err(Refusal::Fault(CheckFault::NotFromZero));
     }
-    let answer = measured(bars, places)?;
-    walk(alloc, bars, &answer, tree.nodes.as_slice())
+    // The call says what is known of the shape: that it is small and has a drawing.
+    let _what_is_known = bars.shape();
+    let length = TotalLength.worth(bars, places);
+    walk(
+        alloc,
+        bars,
+        &Answer { places, length },
+        tree.nodes.as_slice(),
+    )
 }

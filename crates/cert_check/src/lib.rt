@@ -2,17 +2,15 @@
 //! the best one of its shape, and names the first fault of anything else.
 #![tactic(auto)]
 
-mod along;
 mod answer;
 mod bounds;
-mod branch;
 mod checking;
 mod cycles;
 mod earlier;
 mod fault;
 mod law;
 mod loads;
-mod pairs;
+mod sides;
 #[cfg(test)]
 mod tests;
 mod walk;

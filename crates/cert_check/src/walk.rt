@@ -17,31 +17,31 @@ ghost use Rattle.cert_check.specs.inner.Branches.{later};
 
 use crate::answer::Answer;
 use crate::bounds::check_bound;
-use crate::branch::Branch;
 use crate::cycles::first_break;
 use crate::fault::CheckFault;
-use crate::pairs::is_pair;
+use crate::sides::next_branch;
 use bars::Bars;
 use cert_text::CertNode;
 use compact_types::{Axis, Choice, Refusal};
+use shape_graphs::GrowingGraphs;
 use std::alloc::Global;
 
 /// Checks the entries one after the other, each for the choices of its branch.
 pub(crate) fn walk(
     alloc: Global,
     bars: &Bars,
-    answer: &Answer,
+    answer: &Answer<'_>,
     nodes: &[CertNode],
 ) -> Result<(), Refusal<CheckFault>>
-    requires answer { IsAnswer bars.now answer.now }
+    requires answer { IsAnswer bars.now answer.now.places.now answer.now.length }
     requires whole { IsWhole nodes.now }
     requires in_range { All IsInRange nodes.now }
     requires shallow { IsShallow MOST_CHOICES nodes.now }
-    ensures good { OnOk result (AreGood bars.now answer.now.places ([] ∷ []) nodes.now) }
+    ensures good { OnOk result (AreGood bars.now answer.now.places.now ([] ∷ []) nodes.now) }
     ensures fault { IfFault result
-        (IsFirstIn bars.now answer.now.places 0 ([] ∷ []) nodes.now) }
+        (IsFirstIn bars.now answer.now.places.now 0 ([] ∷ []) nodes.now) }
 {
-    let mut branch = Branch::root(alloc, bars)?;
+    let mut branch = GrowingGraphs::new(alloc, bars)?;
     for entry in 0..nodes.len() {
         let number = entry as u64;
         match step(alloc, bars, answer, &mut branch, number, &nodes[entry]) {
@@ -53,26 +53,26 @@ pub(crate) fn walk(
             Err(refusal) => return Err(refusal),
         }
     }
-    Ok(())
+    unreachable!()
 }
 
 /// Checks the entry, and goes on to the next branch; whether there is one.
 fn step(
     alloc: Global,
     bars: &Bars,
-    answer: &Answer,
-    branch: &mut Branch,
+    answer: &Answer<'_>,
+    branch: &mut GrowingGraphs,
     entry: u64,
     node: &CertNode,
 ) -> Result<bool, Refusal<CheckFault>>
-    requires answer { IsAnswer bars.now answer.now }
+    requires answer { IsAnswer bars.now answer.now.places.now answer.now.length }
     requires at { IsAt bars.now branch.old }
     requires in_range { IsInRange node.now }
     requires room { HasRoom node.now branch.old.choices }
     ensures good { IfOk result (λ _.
-        IsGoodEntry bars.now branch.old.choices answer.now.places node.now) }
+        IsGoodEntry bars.now branch.old.choices answer.now.places.now node.now) }
     ensures fault { IfFault result
-        (IsEntryFault bars.now branch.old.choices answer.now.places entry node.now) }
+        (IsEntryFault bars.now branch.old.choices answer.now.places.now entry node.now) }
     ensures next { IfOk result (λ more. MatchBool more
         (IsNext bars.now (opened_by node.now branch.old.choices ++ later branch.old.choices)
         branch.new)
@@ -93,12 +93,12 @@ fn step(
                 x.as_slice(),
                 y.as_slice(),
             )?;
-            let more = branch.next(bars)?;
+            let more = next_branch(branch, bars)?;
             Ok(more)
         }
         CertNode::Cycle { axis, arcs } => {
             check_cycle(branch, entry, *axis, arcs.as_slice())?;
-            let more = branch.next(bars)?;
+            let more = next_branch(branch, bars)?;
             Ok(more)
         }
     }
@@ -107,7 +107,7 @@ fn step(
 /// Checks that the two are a pair, and goes on to the branch of its first side.
 fn split(
     bars: &Bars,
-    branch: &mut Branch,
+    branch: &mut GrowingGraphs,
     entry: u64,
     s: u32,
     t: u32,
@@ -120,7 +120,7 @@ fn split(
     ensures at { OnOk result (IsAt bars.now branch.new) }
     ensures choices { OnOk result (branch.new.choices ≡ with_choice branch.old.choices s t 0) }
 {
-    if !is_pair(bars, s, t) {
+    if !bars.is_pair(s, t) {
         return Err(Refusal::Fault(CheckFault::BadPair { entry }));
     }
     branch.push(bars, Choice { s, t, side: 0 })?;
@@ -129,7 +129,7 @@ fn split(
 
 /// Checks that the arcs are a cycle of the graph of the axis.
 fn check_cycle(
-    branch: &Branch,
+    branch: &GrowingGraphs,
     entry: u64,
     axis: Axis,
     walk: &[u32],
@@ -139,7 +139,7 @@ fn check_cycle(
         × IsFirstBreak (arcs_on axis branch.now) walk.now place
         × (fault ≡ faults.NotACycle entry place)) }
 {
-    match first_break(branch.arcs(axis), walk) {
+    match first_break(branch.graph_on(axis).graph.arcs.as_slice(), walk) {
         None => Ok(()),
         Some(place) => {
             let place = place as u64;

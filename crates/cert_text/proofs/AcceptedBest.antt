@@ -19,7 +19,9 @@ use Rattle.cert_text.specs.declared.tree.CertNode.{CertNode}
 use Rattle.cert_text.specs.declared.tree.CertNode.TheVariants.{Split, Bound, Cycle}
 use Rattle.cert_text.specs.Accepting.{Accepts, AreGood, IsGoodEntry, opened_by, flows_of}
 use Rattle.cert_text.specs.Trees.{AreShallow, IsShallow, depths_opened}
+use Rattle.cert_text.specs.declared.trimming.TheConstants.{MOST_SPLITS}
 use Rattle.cert_text.proofs.EntryLemmas.{none_at_cycle, none_at_bound}
+use Rattle.cert_text.proofs.TreeLaws.{shallower_from}
 
 -- the choices of a branch that lies under so many splits: one for each split, and each is a choice
 pub record AreChoicesAt (shape : Shape) (choices : List Choice) (depth : ℕ) : Type 0 where
@@ -135,3 +137,9 @@ accepted_best shape places nodes sound shallow accepts = record {
       (record { long = refl; each = λ i inside. absurd (omega (arith, inside)) }, tt) shallow accepts.entries
       (inl (solves_none shape other drawing));
 }
+
+-- and what is no deeper than a certificate that is made
+pub made_best : (shape : Shape) (places : Places) (nodes : List CertNode) → IsSound shape →
+    IsShallow MOST_SPLITS nodes → Accepts shape places nodes → IsBest total_length shape places
+made_best shape places nodes sound shallow accepts =
+    accepted_best shape places nodes sound (shallower_from MOST_SPLITS MOST_CHOICES nodes (0 ∷ []) (omega arith) shallow) accepts

@@ -13,7 +13,7 @@ use Rattle.board.specs.declared.entries.Settled.TheVariants.{Split, Closed, Impr
 use Rattle.board.specs.declared.standings.Standing.{Standing}
 use Rattle.board.specs.declared.standings.Standing.TheVariants.{Done}
 use Rattle.board.specs.Boards.{BoardView, board_state, verdict_of}
-use Rattle.board.specs.Facts.{IsKeptAt, IsSettledBy, IsSplit, LeadsTo}
+use Rattle.board.specs.Facts.{HasBranchPair, IsKeptAt, IsSettledBy, IsSplit, LeadsTo}
 use Rattle.board.specs.Histories.{IsSettled, branch_count, choices_of, standing_of}
 use Rattle.board.specs.Verdicts.{IsSoundVerdict}
 use Rattle.board.proofs.Laws.{all_settled, none_open_is_best}
@@ -48,11 +48,12 @@ closing_entry board id (Least key proof) is late ids rest entries =
 
 -- a branch that was split, and whose key comes before the incumbent, is split still
 still_split : (board : BoardView Flows) (id first s t : ℕ) → standing_of (board_state board) id ≡ Done (Split first s t) →
-    (verdict : Verdict Flows) → verdict_of board id ≡ Some verdict → ComesFirst board.incumbent verdict → IsSplitStill board id first s t
-still_split board id first s t done (Cyclic axis cycle) is before = absurd before
-still_split board id first s t done (Above bound stop proof) is before = absurd before
-still_split board id first s t done (Least key proof) is before =
-    record { split = done; key = key; proof = proof; kept = is; before = before }
+    (verdict : Verdict Flows) → verdict_of board id ≡ Some verdict → ComesFirst board.incumbent verdict →
+    HasBranchPair board.shape (choices_of (board_state board) id) verdict s t → IsSplitStill board id first s t
+still_split board id first s t done (Cyclic axis cycle) is before pair = absurd before
+still_split board id first s t done (Above bound stop proof) is before pair = absurd before
+still_split board id first s t done (Least key proof) is before pair =
+    record { split = done; key = key; proof = proof; kept = is; before = before; pair = pair }
 
 module _ (board : BoardView Flows) (nodes : List CertNode) (waiting : List ℕ) (id : ℕ) (begun : IsBegun board nodes (waiting ++ id ∷ [])) where
   inside : id < branch_count (board_state board)
@@ -103,7 +104,7 @@ module _ (board : BoardView Flows) (nodes : List CertNode) (waiting : List ℕ) 
       IsSplitStill board id first s t
   still_at before first s t done =
       let by = kept (Split first s t) done in
-      still_split board id first s t done by.verdict by.kept (before by.verdict by.kept)
+      still_split board id first s t done by.verdict by.kept (before by.verdict by.kept) by.splits
 
 -- a branch whose key is not before the incumbent is closed
 pub closed_at : (board : BoardView Flows) (nodes nodes' : List CertNode) (waiting : List ℕ) (id : ℕ) → IsBegun board nodes (waiting ++ id ∷ []) →

@@ -13,22 +13,20 @@ use Rattle.compact_types.specs.declared.search.Flows.{Flows}
 use Rattle.compact_types.specs.Bests.{IsBest, key_of, worth_of}
 use Rattle.compact_types.specs.Bests.Objective.{total_length}
 use Rattle.compact_types.specs.Drawings.{IsDrawing}
-use Rattle.compact_types.specs.Lengths.{length_of}
+use Rattle.compact_types.specs.Bests.{worth_of}
 use Rattle.compact_types.specs.Moves.{moved}
 use Rattle.compact_types.specs.Orders.{IsBefore, IsListBefore, numbers_of}
 use Rattle.compact_types.proofs.Laws.{before_or_equal, drawing-moved, list_before_trans, list_not_before_itself, plain_length-moved, some_from_zero}
-use Rattle.bars.specs.Segments.{node_count}
 use Rattle.bars.specs.Solutions.{IsSound, Fit}
 use Rattle.shape_graphs.specs.declared.measure.Verdict.{Verdict}
 use Rattle.shape_graphs.specs.declared.measure.Verdict.TheVariants.{Cyclic, Above, Least}
-use Rattle.shape_graphs.specs.Arcs.{AreGraph}
 use Rattle.shape_graphs.specs.Backings.{AreBalanced, DoBack, bound_by, flow_of}
 use Rattle.shape_graphs.specs.Graphs.{arcs_of}
 use Rattle.shape_graphs.specs.Measures.{IsLeastKey}
 use Rattle.shape_graphs.specs.Paths.{IsCycle}
-use Rattle.shape_graphs.proofs.Laws.{are_graph, one_least}
+use Rattle.shape_graphs.proofs.Laws.{one_least}
 use Rattle.potentials.specs.TightPlaces.{AreLeastTightPlaces}
-use Rattle.potentials.proofs.Laws.{least_from_tight}
+use Rattle.potentials.proofs.Laws.{graph_of, least_from_tight}
 use Rattle.board.specs.Facts.{IsDrawnKey}
 use Rattle.board.specs.Verdicts.{IsSoundVerdict}
 use Rattle.cert_text.specs.declared.trimming.TheConstants.{MOST_SPLITS}
@@ -40,21 +38,18 @@ use Rattle.cert_text.specs.Trims.{bound_entry, loads_from}
 use Rattle.cert_text.proofs.LoadLemmas.{amounts_given, are_loads, on_arcs}
 
 module _ (shape : Shape) (choices : List Choice) (sound : IsSound shape) (fit : Fit shape choices) where
-  graph_of : (axis : Axis) → AreGraph (node_count axis shape) (arcs_of axis shape choices)
-  graph_of axis = are_graph axis shape choices sound fit
-
   module _ (flows : Flows) (balanced : AreBalanced shape choices flows) where
     -- flows on the graphs have few amounts
     pub few_amounts : HaveFewAmounts flows
     few_amounts = record {
-      x = (let few = (graph_of X).few in let long = (balanced X).amounts.one_for_each in omega (arith, few, long));
-      y = (let few = (graph_of Y).few in let long = (balanced Y).amounts.one_for_each in omega (arith, few, long));
+      x = (let few = (graph_of shape choices sound fit X).few in let long = (balanced X).amounts.one_for_each in omega (arith, few, long));
+      y = (let few = (graph_of shape choices sound fit Y).few in let long = (balanced Y).amounts.one_for_each in omega (arith, few, long));
     }
 
     loads_along : (axis : Axis) → AreLoads (loads_from 0 (flow_of axis flows).amounts)
     loads_along axis =
         let long = (balanced axis).amounts.one_for_each in
-        let few = (graph_of axis).few in
+        let few = (graph_of shape choices sound fit axis).few in
         are_loads (flow_of axis flows).amounts (omega (arith, few, long))
         (λ i inside. (balanced axis).amounts.most i (omega (arith, inside, long)))
 
@@ -81,7 +76,7 @@ module _ (shape : Shape) (choices : List Choice) (sound : IsSound shape) (fit : 
 
     -- flows of a least key that does not come before the answer bound
     pub bounds_at_least : (key best : Key) → IsLeastKey total_length shape choices key → bound_by shape choices flows ≡ key.worth →
-        best.worth ≡ length_of shape.plan best.places → length best.places.xy ≡ shape.plan.vertices →
+        best.worth ≡ worth_of total_length shape best.places → length best.places.xy ≡ shape.plan.vertices →
         (IsBefore key best → ⊥) → DoBound shape choices flows best.places
     bounds_at_least key best least is worth fits late =
         by_order (before_or_equal key best (least.solves.places_fit ∙ sym fits))

@@ -11,7 +11,7 @@ use Rattle.compact_types.specs.declared.search.Flows.{Flows}
 use Rattle.compact_types.specs.Bests.{key_of}
 use Rattle.compact_types.specs.Bests.Objective.{total_length}
 use Rattle.compact_types.specs.Drawings.{IsFromZero}
-use Rattle.compact_types.specs.Lengths.{length_of}
+use Rattle.compact_types.specs.Bests.{worth_of}
 use Rattle.compact_types.specs.Orders.{IsBefore, IsListBefore, numbers_of}
 use Rattle.compact_types.proofs.Laws.{before_or_equal, list_before_trans}
 use Rattle.bars.specs.Solutions.{IsSound, Fit, Solves}
@@ -22,7 +22,7 @@ use Rattle.shape_graphs.specs.Paths.{IsCycle}
 use Rattle.shape_graphs.proofs.Laws.{cycle_is_one, no_cycle_where_solved, not_before_least}
 use Rattle.potentials.specs.TightPlaces.{AreLeastTightPlaces}
 use Rattle.potentials.proofs.Laws.{worth_above, tight_at_bound, bound_at_tight, some_least_key}
-use Rattle.cert_text.specs.Accepting.{DoBound}
+use Rattle.cert_text.specs.Accepting.{DoBound, NoneEarlier}
 
 module _ (shape : Shape) (choices : List Choice) (sound : IsSound shape) (fit : Fit shape choices) where
   -- no places solve choices of which a graph has a cycle
@@ -47,7 +47,7 @@ module _ (shape : Shape) (choices : List Choice) (sound : IsSound shape) (fit : 
 
     -- some least places are tight for flows whose bound is the worth of places that solve the choices
     some_tight : (drawn : Places) → Solves shape choices drawn →
-        length_of shape.plan drawn ≡ bound_by shape choices flows →
+        worth_of total_length shape drawn ≡ bound_by shape choices flows →
         (least : Key) × IsLeastKey total_length shape choices least × (least.worth ≡ bound_by shape choices flows)
     some_tight drawn solves same =
         let found = some_least_key shape choices sound fit (no_cycle_where_solved shape choices sound.drawable fit drawn solves) in
@@ -63,16 +63,15 @@ module _ (shape : Shape) (choices : List Choice) (sound : IsSound shape) (fit : 
     none_at_bound places fits bounds drawn solves from_zero before =
         by_bound bounds before
       where
-        low : (bound_by shape choices flows) ≤ℤ (length_of shape.plan drawn)
+        low : (bound_by shape choices flows) ≤ℤ (worth_of total_length shape drawn)
         low = worth_above shape choices sound fit flows balanced drawn solves
 
-        by_lists : bound_by shape choices flows ≡ length_of shape.plan places →
-            ((least : Places) → AreLeastTightPlaces shape choices flows least →
-            IsListBefore (numbers_of least.xy) (numbers_of places.xy) → ⊥) →
-            length_of shape.plan drawn ≡ length_of shape.plan places →
+        by_lists : bound_by shape choices flows ≡ worth_of total_length shape places →
+            NoneEarlier shape choices flows places →
+            worth_of total_length shape drawn ≡ worth_of total_length shape places →
             IsListBefore (numbers_of drawn.xy) (numbers_of places.xy) → ⊥
         by_lists is not_before same list_before =
-            let at_bound : length_of shape.plan drawn ≡ bound_by shape choices flows = same ∙ sym is in
+            let at_bound : worth_of total_length shape drawn ≡ bound_by shape choices flows = same ∙ sym is in
             let found = some_tight drawn solves at_bound in
             let key = found.0 in
             let tight = tight_from_least key found.1 found.2 in

@@ -9,6 +9,7 @@ pub mod BranchLemmas
 pub mod TreeLemmas
 pub mod ReadAnswers
 pub mod ReadCertificates
+pub mod ReadComments
 pub mod ReadEntries
 pub mod ReadEvery
 pub mod ReadHeads

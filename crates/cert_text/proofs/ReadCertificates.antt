@@ -119,7 +119,7 @@ enough_lines (node ∷ nodes) =
       length-append (entry_line node) (entry_lines nodes),
     )
 
-few_entries : (text : List ℕ) (pitch : ℕ) (nodes : List CertNode) → IsCertificate text pitch nodes →
+pub few_entries : (text : List ℕ) (pitch : ℕ) (nodes : List CertNode) → IsCertificate text pitch nodes →
     length nodes < length text
 few_entries text pitch nodes is =
     let head : 1 ≤ length (head_line pitch) = omega arith in

@@ -15,6 +15,7 @@ use Rattle.cert_text.specs.Loads.{AreLoads, IsLoad, IsSmall, load_at}
 use Rattle.cert_text.specs.Texts.{arcs_text, load_text, loads_text}
 use Rattle.cert_text.specs.inner.Reading.{after_byte, arc_after, arc_of, arcs_of, load_of, loads_of}
 use Rattle.cert_text.specs.inner.Reading.{no_bound, number_of}
+use Rattle.cert_text.proofs.Printed.{arc_text, arcs_text_parts, loads_text_parts}
 use Rattle.cert_text.proofs.ReadItems.{DoFit, IsReader, items_are_read, items_found}
 use Rattle.cert_text.proofs.ReadNumbers.{IsLimit, begins_digit, number_is, number_is_read}
 use Rattle.cert_text.proofs.ReadWords.{after_byte_is, bind_some, cond_some}
@@ -92,10 +93,6 @@ load_reader = record {
   some = λ load. omega arith;
 }
 
-flat_loads : (loads : List Load) → loads_text loads ≡ flat_map load_text loads
-flat_loads [] = refl
-flat_loads (load ∷ loads) = ap (λ end. load_text load ++ end) (flat_loads loads)
-
 -- the first arc is at least so great
 abbrev BeginsAt : ℕ → List Load → Type 0
 BeginsAt least loads = 0 < length loads → least ≤ (load_at loads 0).arc
@@ -144,7 +141,7 @@ loads_are text =
     let found = items_found load_of load_text FitsLoad arc_after load_reader (length text) 0 text in
     record {
       cut = found.cut ∙ ap (λ front. front ++ (loads_of text).1)
-          (sym (flat_loads (loads_of text).0));
+          (sym (loads_text_parts (loads_of text).0));
       are = (fitting_loads 0 (loads_of text).0 (found.fit)).0;
     }
 
@@ -152,7 +149,7 @@ pub loads_are_read : (loads : List Load) (rest : List ℕ) → AreLoads loads �
     begins_digit rest ≡ false →
     ((least : ℕ) → load_of least rest ≡ None) → loads_of (loads_text loads ++ rest) ≡ (loads, rest)
 unfolding loads_of
-loads_are_read loads rest are end stop = rw (flat_loads loads)
+loads_are_read loads rest are end stop = rw (loads_text_parts loads)
     (items_are_read load_of load_text FitsLoad arc_after load_reader loads rest
     (loads_fit 0 loads are (λ h. omega arith)) end stop)
 
@@ -163,9 +160,6 @@ no_load_at_end least = refl
 pub no_load_at_y : (least : ℕ) (text : List ℕ) → load_of least (32 ∷ 121 ∷ text) ≡ None
 unfolding load_of number_of
 no_load_at_y least text = refl
-
-abbrev arc_text : ℕ → List ℕ
-arc_text arc = codes " " ++ decimal arc
 
 abbrev FitsArc : ℕ → ℕ → Type 0
 FitsArc least arc = IsSmall arc
@@ -191,10 +185,6 @@ arc_reader = record {
   some = λ arc. omega arith;
 }
 
-flat_arcs : (arcs : List ℕ) → arcs_text arcs ≡ flat_map arc_text arcs
-flat_arcs [] = refl
-flat_arcs (arc ∷ arcs) = ap (λ end. arc_text arc ++ end) (flat_arcs arcs)
-
 arcs_fit : (arcs : List ℕ) → All IsSmall arcs → DoFit FitsArc no_bound 0 arcs
 arcs_fit [] small = tt
 arcs_fit (arc ∷ arcs) small =
@@ -214,7 +204,7 @@ unfolding arcs_of
 arcs_are text =
     let found = items_found arc_of arc_text FitsArc no_bound arc_reader (length text) 0 text in
     record {
-      cut = found.cut ∙ ap (λ front. front ++ (arcs_of text).1) (sym (flat_arcs (arcs_of text).0));
+      cut = found.cut ∙ ap (λ front. front ++ (arcs_of text).1) (sym (arcs_text_parts (arcs_of text).0));
       small = fitting_arcs (arcs_of text).0 (found.fit);
     }
 
@@ -224,6 +214,6 @@ no_arc_at_end least = refl
 
 pub arcs_are_read : (arcs : List ℕ) → All IsSmall arcs → arcs_of (arcs_text arcs) ≡ (arcs, [])
 unfolding arcs_of
-arcs_are_read arcs small = rw (flat_arcs arcs, ← append-nil (flat_map arc_text arcs))
+arcs_are_read arcs small = rw (arcs_text_parts arcs, ← append-nil (flat_map arc_text arcs))
     (items_are_read arc_of arc_text FitsArc no_bound arc_reader arcs []
     (arcs_fit arcs small) refl no_arc_at_end)

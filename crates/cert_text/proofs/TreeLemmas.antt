@@ -34,7 +34,7 @@ opened_deeper (Split s t) choices branches depth depths is rest =
 opened_deeper (Bound x y) choices branches depth depths is rest = rest
 opened_deeper (Cycle axis arcs) choices branches depth depths is rest = rest
 
-opened_count : (node : CertNode) (choices : List Choice) (branches : List (List Choice)) →
+pub opened_count : (node : CertNode) (choices : List Choice) (branches : List (List Choice)) →
     length (opened_by node choices ++ branches) ≡ branches_of node + length branches
 opened_count (Split s t) choices branches = omega arith
 opened_count (Bound x y) choices branches = omega arith

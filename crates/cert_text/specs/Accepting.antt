@@ -6,7 +6,8 @@ use Rattle.compact_types.specs.declared.plan.Shape.{Shape}
 use Rattle.compact_types.specs.declared.search.Choice.{Choice}
 use Rattle.compact_types.specs.declared.search.Flows.{Flows}
 use Rattle.compact_types.specs.Drawings.{IsDrawing, IsFromZero}
-use Rattle.compact_types.specs.Lengths.{length_of}
+use Rattle.compact_types.specs.Bests.{worth_of}
+use Rattle.compact_types.specs.Bests.Objective.{total_length}
 use Rattle.compact_types.specs.Orders.{IsListBefore, numbers_of}
 use Rattle.bars.specs.Segments.{IsPair}
 use Rattle.shape_graphs.specs.declared.graph.Arc.{Arc}
@@ -31,16 +32,21 @@ flows_of shape choices x y = record {
   y = record { amounts = amounts_of (arcs_of Y shape choices) y };
 }
 
+-- the least places that are tight for both flows do not come before these: there are none, or their
+-- list of coordinates is not the lesser
+abbrev pub NoneEarlier : Shape → List Choice → Flows → Places → Type 0
+NoneEarlier shape choices flows places =
+    (least : Places) → AreLeastTightPlaces shape choices flows least →
+    IsListBefore (numbers_of least.xy) (numbers_of places.xy) → ⊥
+
 -- The flows show that no drawing of the choices comes before the places. Their bound is above the
 -- length; or it is the length, so that the drawings of this length are tight for both flows, and
--- the least places that are tight do not come before these: there are none, or their list of
--- coordinates is not the lesser.
+-- the least places that are tight do not come before these.
 abbrev pub DoBound : Shape → List Choice → Flows → Places → Type 0
 DoBound shape choices flows places =
-    (length_of shape.plan places <ℤ bound_by shape choices flows)
-    ⊎ ((bound_by shape choices flows ≡ length_of shape.plan places)
-    × ((least : Places) → AreLeastTightPlaces shape choices flows least →
-    IsListBefore (numbers_of least.xy) (numbers_of places.xy) → ⊥))
+    (worth_of total_length shape places <ℤ bound_by shape choices flows)
+    ⊎ ((bound_by shape choices flows ≡ worth_of total_length shape places)
+    × NoneEarlier shape choices flows places)
 
 -- the loads are on arcs of their graphs, and make flows that balance and bound
 pub record IsGoodBound

@@ -1,13 +1,14 @@
 -- Where the certificate stands in a text, and which one it is.
 use Rattle.std.specs.Prelude.{◌≡◌, ◌⊎◌, ℕ, ◌≤◌, List, [], ◌∷◌, ◌++◌, length}
 use Rattle.compact_types.specs.declared.limits.TheConstants.{MOST_PITCH}
+use Rattle.gml_text.specs.declared.marks.TheConstants.{LINE_FEED}
 use Rattle.cert_text.specs.declared.tree.CertNode.{CertNode}
 use Rattle.cert_text.specs.Loads.{IsCertTree}
 use Rattle.cert_text.specs.Texts.{head_start, certificate_text}
 
--- a line begins behind this text: it is empty, or ends with a line feed
+-- a line begins after this text: it is empty, or ends with a line feed
 abbrev pub IsBeforeLine : List ℕ → Type 0
-IsBeforeLine front = (front ≡ []) ⊎ ((before : List ℕ) × (front ≡ before ++ 10 ∷ []))
+IsBeforeLine front = (front ≡ []) ⊎ ((before : List ℕ) × (front ≡ before ++ LINE_FEED ∷ []))
 
 -- the text is a front and a rest that begins with a head line, of whatever version
 pub record IsCutAtHead (text front rest : List ℕ) : Type 0 where

@@ -5,10 +5,11 @@ use Rattle.compact_types.specs.declared.search.Flows.{Flows}
 use Rattle.compact_types.specs.Orders.{IsBefore}
 use Rattle.shape_graphs.specs.declared.measure.Verdict.{Verdict}
 use Rattle.shape_graphs.specs.declared.measure.Verdict.TheVariants.{Cyclic, Above, Least}
+use Rattle.separation.specs.Branching.{IsBranchPair}
 use Rattle.board.specs.declared.entries.Settled.TheVariants as settled
 use Rattle.board.specs.declared.standings.Standing.TheVariants.{Done}
 use Rattle.board.specs.Boards.{BoardView, board_state, verdict_of}
-use Rattle.board.specs.Histories.{standing_of}
+use Rattle.board.specs.Histories.{choices_of, standing_of}
 use Rattle.cert_text.specs.declared.tree.CertNode.{CertNode}
 use Rattle.cert_text.specs.declared.tree.CertNode.TheVariants.{Split, Bound, Cycle}
 use Rattle.cert_text.specs.declared.tree.Load.{Load}
@@ -42,13 +43,14 @@ pub record IsClosing (board : BoardView Flows) (id : ℕ) (node : CertNode) : Ty
   pub closes : Closes board.incumbent verdict node
 
 -- the branch was split at the pair into four branches from the number `first` on, and its least
--- key comes before the incumbent
+-- key comes before the incumbent; the pair is the branch pair at the places of that key
 pub record IsSplitStill (board : BoardView Flows) (id first s t : ℕ) : Type 0 where
   pub split : standing_of (board_state board) id ≡ Done (settled.Split first s t)
   pub key : Key
   pub proof : Flows
   pub kept : verdict_of board id ≡ Some (Least key proof)
   pub before : IsBefore key board.incumbent
+  pub pair : IsBranchPair board.shape (choices_of (board_state board) id) key.places s t
 
 -- The entries are those of these branches, the next one first, each with the branches under it. A
 -- branch that was split, and whose least key comes before the incumbent, is a split, and its four

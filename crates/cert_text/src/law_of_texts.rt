@@ -2,6 +2,8 @@
 
 ghost use Rattle.std.specs.Prelude.{ℕ, List, ◌++◌};
 ghost use Rattle.compact_types.specs.Refusals.{HasOneAnswer};
+ghost use Rattle.gml_text.specs.declared.tree.Tree.{Tree};
+ghost use Rattle.gml_text.specs.Texts.{Spells};
 ghost use Rattle.cert_text.specs.declared.tree.CertNode.{CertNode};
 ghost use Rattle.cert_text.specs.declared.tree.CertTree.{CertTree};
 ghost use Rattle.cert_text.specs.Certificates.{IsBeforeLine, IsCertificate, IsPitch};
@@ -22,4 +24,12 @@ pub fn printed_certificates_are_read()
     ensures { (front : List ℕ) (pitch : ℕ) (nodes : List CertNode) →
         IsBeforeLine front → IsPitch pitch → IsCertTree nodes →
         IsCertificate (front ++ certificate_text pitch nodes) pitch nodes }
+{}
+
+/// The lines of a certificate are comments: whole lines keep the tree that they spell with a
+/// certificate after them.
+pub fn certificates_are_comments()
+    ensures { (text : List ℕ) (tree : Tree) (pitch : ℕ) (nodes : List CertNode) →
+        IsBeforeLine text → IsPitch pitch → IsCertTree nodes → Spells text tree →
+        Spells (text ++ certificate_text pitch nodes) tree }
 {}

@@ -16,9 +16,11 @@ mod tree;
 mod trimming;
 
 pub use fault::{CertFault, CertKind};
-pub use law::{accepted_is_best, shallower, whole_trees_are_shallow};
-pub use law_of_texts::{printed_certificates_are_read, texts_have_one_answer};
-pub use printing::print_cert;
+pub use law::{accepted_is_best, made_is_best, shallower, whole_trees_are_shallow};
+pub use law_of_texts::{
+    certificates_are_comments, printed_certificates_are_read, texts_have_one_answer,
+};
+pub use printing::{append_cert, print_cert};
 pub use reading::read_cert;
 pub use tree::{CertNode, CertTree, Load, MOST_NUMBER};
 pub use trimming::{MOST_SPLITS, trim};

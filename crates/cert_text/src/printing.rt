@@ -19,9 +19,19 @@ pub fn print_cert(alloc: Global, tree: &CertTree, pitch: u32) -> Result<Items<u8
     ensures { IfOk result (λ text. text ≡ certificate_text pitch tree.now.nodes) }
 {
     let mut text = Items::new(alloc);
-    write_head(&mut text, pitch)?;
-    write_entries(&mut text, tree.nodes.as_slice())?;
+    append_cert(&mut text, tree, pitch)?;
     Ok(text)
+}
+
+/// Adds the text of the certificate to `text`. Without memory a beginning of it may have been
+/// added; what `text` had before stays in front.
+pub fn append_cert(text: &mut Items<u8>, tree: &CertTree, pitch: u32) -> Result<(), NoMemory>
+    requires tree { IsCertTree tree.now.nodes }
+    requires pitch { IsPitch pitch }
+    ensures { OnOk result (text.new ≡ text.old ++ certificate_text pitch tree.now.nodes) }
+{
+    write_head(text, pitch)?;
+    write_entries(text, tree.nodes.as_slice())
 }
 
 /// Adds the head line to `text`.

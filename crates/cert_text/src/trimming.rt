@@ -15,13 +15,12 @@ mod loads;
 use crate::tree::CertTree;
 use bars::Bars;
 use board::Board;
-use compact_types::{Flows, Items, NoMemory};
+use compact_types::{Flows, Items, MOST_PAIRS, NoMemory};
 use entries::enter;
 use std::alloc::Global;
 
-/// The most splits over an entry of a certificate that is made: a shape has at most 1,000 segments,
-/// and each split above an entry is on a pair of its own.
-pub const MOST_SPLITS: usize = 499_500;
+/// The most splits over an entry of a certificate that is made: each is on a pair of its own.
+pub const MOST_SPLITS: usize = MOST_PAIRS;
 
 /// The certificate that the board's verdicts make, for the incumbent of a search that has ended: a
 /// bound and a cycle stay, and a branch whose least key is not before the incumbent becomes a

@@ -1,47 +1,38 @@
 -- The branch at hand in a walk over a certificate, and the branches that are still to come.
-use Rattle.std.specs.Prelude.{◌≡◌, ℕ, zero, suc, ◌<◌, List, [], ◌∷◌, ◌++◌, length}
+use Rattle.std.specs.Prelude.{◌≡◌, ℕ, zero, suc, ◌<◌, ℤ, List, [], ◌∷◌, ◌++◌, length}
 use Rattle.compact_types.specs.declared.limits.TheConstants.{MOST_CHOICES}
 use Rattle.compact_types.specs.declared.places.Axis.{Axis}
-use Rattle.compact_types.specs.declared.places.Axis.TheVariants.{X, Y}
+use Rattle.compact_types.specs.declared.places.Places.{Places}
 use Rattle.compact_types.specs.declared.plan.Shape.{Shape}
 use Rattle.compact_types.specs.declared.search.Choice.{Choice}
-use Rattle.compact_types.specs.Lengths.{length_of}
-use Rattle.bars.specs.Solutions.{Fit, with_choice}
+use Rattle.compact_types.specs.Bests.{worth_of}
+use Rattle.compact_types.specs.Bests.Objective.{total_length}
+use Rattle.bars.specs.Solutions.{with_choice}
 use Rattle.shape_graphs.specs.declared.graph.Arc.{Arc}
-use Rattle.shape_graphs.specs.Graphs.{IsGraphOf}
+use Rattle.shape_graphs.specs.declared.growing.GrowingGraphs.{GrowingGraphs}
+use Rattle.shape_graphs.specs.Growing.{AreGrown, graph_on}
 use Rattle.cert_text.specs.declared.tree.CertNode.{CertNode}
 use Rattle.cert_text.specs.declared.tree.CertNode.TheVariants.{Split, Bound, Cycle}
 use Rattle.cert_text.specs.declared.tree.Load.{Load}
-use Rattle.cert_check.specs.declared.answer.Answer.{Answer}
-use Rattle.cert_check.specs.declared.along.Along.{Along}
-use Rattle.cert_check.specs.declared.branch.Branch.{Branch}
 use Rattle.cert_check.specs.inner.Loading.{HaveLoads}
 
--- the drawing has a place for each vertex, and its length is known
-pub record IsAnswer (shape : Shape) (answer : Answer) : Type 0 where
-  pub places_fit : length answer.places.xy ≡ shape.plan.vertices
-  pub length : answer.length ≡ length_of shape.plan answer.places
+-- the drawing has a place for each vertex, and this is its length
+pub record IsAnswer (shape : Shape) (places : Places) (worth : ℤ) : Type 0 where
+  pub places_fit : length places.xy ≡ shape.plan.vertices
+  pub length : worth ≡ worth_of total_length shape places
 
 -- the arcs of the graph of the axis
-abbrev pub arcs_on : Axis → Branch → List Arc
-arcs_on X branch = branch.columns.graph.arcs
-arcs_on Y branch = branch.rows.graph.arcs
-
--- the graph of the choices along the axis, with the amounts of these loads
-pub record IsLoaded (axis : Axis) (shape : Shape) (choices : List Choice) (loads : List Load)
-    (along : Along) : Type 0 where
-  pub graph : IsGraphOf axis shape choices along.graph
-  pub one_for_each : length along.flow.amounts ≡ length along.graph.arcs
-  pub amounts : HaveLoads along.flow.amounts loads
+abbrev pub arcs_on : Axis → GrowingGraphs → List Arc
+arcs_on axis branch = (graph_on axis branch).graph.arcs
 
 -- the graphs are those of the choices, with the amounts of these loads
-pub record HasLoads (shape : Shape) (x y : List Load) (branch : Branch) : Type 0 where
-  pub fit : Fit shape branch.choices
-  pub columns : IsLoaded X shape branch.choices x branch.columns
-  pub rows : IsLoaded Y shape branch.choices y branch.rows
+pub record HasLoads (shape : Shape) (x y : List Load) (branch : GrowingGraphs) : Type 0 where
+  pub grown : AreGrown shape branch
+  pub columns : HaveLoads branch.columns.flow.amounts x
+  pub rows : HaveLoads branch.rows.flow.amounts y
 
 -- the graphs are those of the choices, and nothing is on their arcs
-abbrev pub IsAt : Shape → Branch → Type 0
+abbrev pub IsAt : Shape → GrowingGraphs → Type 0
 IsAt shape branch = HasLoads shape [] [] branch
 
 -- the sides of the same pair that come after this one, each as the last choice of a branch
@@ -70,6 +61,7 @@ HasRoom (Bound x y) choices = Unit {0}
 HasRoom (Cycle axis arcs) choices = Unit {0}
 
 -- the branch at hand is the first of these
-pub record IsNext (shape : Shape) (branches : List (List Choice)) (branch : Branch) : Type 0 where
+pub record IsNext (shape : Shape) (branches : List (List Choice)) (branch : GrowingGraphs) :
+    Type 0 where
   pub at : IsAt shape branch
   pub first : branches ≡ branch.choices ∷ later branch.choices

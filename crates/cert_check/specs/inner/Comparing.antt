@@ -1,24 +1,8 @@
 -- The order of two lists of points.
-use Rattle.std.specs.Prelude.{◌≡◌, ℕ, ◌<◌, ℤ, List, length}
-use Rattle.std.specs.declared.cmp.Ordering.{Ordering}
-use Rattle.std.specs.declared.cmp.Ordering.TheVariants.{Less, Equal, Greater}
-use Rattle.compact_types.specs.declared.places.Axis.{Axis}
-use Rattle.compact_types.specs.declared.places.Axis.TheVariants.{X, Y}
+use Rattle.std.specs.Prelude.{◌≡◌, ℕ, ◌<◌, List, length}
 use Rattle.compact_types.specs.declared.places.Point.{Point}
 use Rattle.compact_types.specs.Lookups.{place}
 use Rattle.compact_types.specs.Orders.{IsListBefore, IsPointBefore, numbers_of}
-use Rattle.diff_flow.specs.Tight.{number_at}
-
--- the numbers on the nodes of both graphs
-abbrev pub numbers_by : List ℤ → List ℤ → Axis → ℕ → ℤ
-numbers_by across up X node = number_at across node
-numbers_by across up Y node = number_at up node
-
--- what the order of two points says
-abbrev pub SaysPoint : Point → Point → Ordering → Type 0
-SaysPoint a b Less = IsPointBefore a b
-SaysPoint a b Equal = a ≡ b
-SaysPoint a b Greater = IsPointBefore b a
 
 -- the points are equal below the vertex
 abbrev pub AreSameBelow : List Point → List Point → ℕ → Type 0

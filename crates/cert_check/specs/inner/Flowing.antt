@@ -5,24 +5,23 @@ use Rattle.compact_types.specs.declared.places.Places.{Places}
 use Rattle.compact_types.specs.declared.plan.Shape.{Shape}
 use Rattle.compact_types.specs.declared.search.Choice.{Choice}
 use Rattle.compact_types.specs.declared.search.Flows.{Flows}
-use Rattle.compact_types.specs.Lengths.{length_of}
-use Rattle.compact_types.specs.Orders.{IsListBefore, numbers_of}
+use Rattle.compact_types.specs.Bests.{worth_of}
+use Rattle.compact_types.specs.Bests.Objective.{total_length}
+use Rattle.shape_graphs.specs.declared.growing.GrowingGraphs.{GrowingGraphs}
 use Rattle.shape_graphs.specs.Backings.{AreBalanced, IsBalanced, bound_by}
 use Rattle.shape_graphs.specs.Flows.{IsFlowOn}
 use Rattle.shape_graphs.specs.Graphs.{IsGraphOf}
-use Rattle.potentials.specs.TightPlaces.{AreLeastTightPlaces}
 use Rattle.cert_text.specs.Accepting.{DoBound}
-use Rattle.cert_check.specs.declared.branch.Branch.{Branch}
 use Rattle.cert_check.specs.declared.fault.CheckFault.{CheckFault}
 use Rattle.cert_check.specs.declared.fault.CheckFault.TheVariants.{Unbalanced, WeakBound}
 use Rattle.cert_check.specs.Faults.{IsEarlierAt, IsUnbalancedAt}
 
 -- the flows on the two graphs of the branch
-abbrev pub flows_on : Branch → Flows
+abbrev pub flows_on : GrowingGraphs → Flows
 flows_on branch = record { x = branch.columns.flow; y = branch.rows.flow }
 
 -- the graphs are those of the choices, with a flow on each
-pub record HasFlows (shape : Shape) (branch : Branch) : Type 0 where
+pub record HasFlows (shape : Shape) (branch : GrowingGraphs) : Type 0 where
   pub columns : IsGraphOf X shape branch.choices branch.columns.graph
   pub rows : IsGraphOf Y shape branch.choices branch.rows.graph
   pub across : IsFlowOn branch.columns.graph.arcs branch.columns.flow.amounts
@@ -34,19 +33,13 @@ pub record DoBalanceAndBound (shape : Shape) (choices : List Choice) (flows : Fl
   pub balanced : AreBalanced shape choices flows
   pub bounds : DoBound shape choices flows places
 
--- no least tight places come before these
-abbrev pub NoneEarlier : Shape → List Choice → Flows → Places → Type 0
-NoneEarlier shape choices flows places =
-    (least : Places) → AreLeastTightPlaces shape choices flows least →
-    IsListBefore (numbers_of least.xy) (numbers_of places.xy) → ⊥
-
 -- the bound of balanced flows is too weak: it is below the length, or it is the length and the
 -- least tight places come before these
 pub data IsWeak (shape : Shape) (choices : List Choice) (flows : Flows) (places : Places)
     (entry : ℕ) : CheckFault → Type 0 where
-  below_length : bound_by shape choices flows <ℤ length_of shape.plan places →
+  below_length : bound_by shape choices flows <ℤ worth_of total_length shape places →
       IsWeak shape choices flows places entry (WeakBound entry (bound_by shape choices flows) None)
-  before_these : (vertex : ℕ) → bound_by shape choices flows ≡ length_of shape.plan places →
+  before_these : (vertex : ℕ) → bound_by shape choices flows ≡ worth_of total_length shape places →
       IsEarlierAt shape choices flows places vertex →
       IsWeak shape choices flows places entry
       (WeakBound entry (bound_by shape choices flows) (Some vertex))

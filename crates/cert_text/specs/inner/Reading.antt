@@ -5,8 +5,10 @@ use Rattle.std.specs.Prelude.{List, [], ◌∷◌, length, codes, Option, None, 
 use Rattle.compact_types.specs.declared.places.Axis.{Axis}
 use Rattle.compact_types.specs.declared.places.Axis.TheVariants.{X, Y}
 use Rattle.compact_types.specs.declared.limits.TheConstants.{MOST_PITCH}
+use Rattle.gml_text.specs.declared.marks.TheConstants.{LINE_FEED, SPACE, ZERO}
 use Rattle.gml_text.specs.Bytes.{is_digit}
 use Rattle.shape_graphs.specs.declared.graph.TheConstants.{MOST_AMOUNT}
+use Rattle.cert_text.specs.declared.reading.loads.TheConstants.{COLON}
 use Rattle.cert_text.specs.declared.tree.CertNode.{CertNode}
 use Rattle.cert_text.specs.declared.tree.CertNode.TheVariants.{Split, Bound, Cycle}
 use Rattle.cert_text.specs.declared.tree.Load.{Load}
@@ -35,7 +37,7 @@ abbrev pub digits_from : ℕ → ℕ → List ℕ → Front ℕ
 digits_from most before [] = Some (before, [])
 digits_from most before (b ∷ text) =
     if is_digit b
-    then (let number = before * 10 + (b - 48) in
+    then (let number = before * 10 + (b - ZERO) in
     if nat_lt most number then None else digits_from most number text)
     else Some (before, b ∷ text)
 
@@ -43,15 +45,15 @@ digits_from most before (b ∷ text) =
 unfoldable pub number_of : ℕ → List ℕ → Front ℕ
 number_of most [] = None
 number_of most (b ∷ text) =
-    if b == 48 then Some (0, text)
-    else (if is_digit b then digits_from most (b - 48) text else None)
+    if b == ZERO then Some (0, text)
+    else (if is_digit b then digits_from most (b - ZERO) text else None)
 
 -- a load whose arc is at least so great
 unfoldable pub load_of : ℕ → List ℕ → Front Load
 load_of least text = do
-  behind ← after_byte 32 text
+  behind ← after_byte SPACE text
   arc ← number_of MOST_NUMBER behind
-  more ← after_byte 58 arc.1
+  more ← after_byte COLON arc.1
   amount ← number_of MOST_AMOUNT more
   if nat_le least arc.0 && nat_le 1 amount.0
       then Some (record { arc = arc.0; amount = amount.0 }, amount.1)
@@ -59,7 +61,7 @@ load_of least text = do
 
 -- an arc behind a space; it may be any one
 unfoldable pub arc_of : ℕ → List ℕ → Front ℕ
-arc_of least text = after_byte 32 text >>= number_of MOST_NUMBER
+arc_of least text = after_byte SPACE text >>= number_of MOST_NUMBER
 
 -- an item that was found at the front, and those after it
 abbrev pub with_others : {A : Type 0} →
@@ -101,7 +103,7 @@ at_end value (b ∷ text) = None
 unfoldable pub split_of : List ℕ → Option CertNode
 split_of text = do
   s ← number_of MOST_NUMBER text
-  more ← after_byte 32 s.1
+  more ← after_byte SPACE s.1
   t ← number_of MOST_NUMBER more
   at_end (Split s.0 t.0) t.1
 
@@ -134,5 +136,5 @@ unfoldable pub head_of : List ℕ → Front ℕ
 head_of text = do
   number ← after_word (codes "#! compaction 1 pitch ") text
   pitch ← number_of MOST_PITCH number
-  after ← after_byte 10 pitch.1
+  after ← after_byte LINE_FEED pitch.1
   if nat_le 1 pitch.0 then Some (pitch.0, after) else None

@@ -10,6 +10,9 @@ use crate::tree::{Load, MOST_NUMBER};
 use compact_types::{Items, NoMemory};
 use shape_graphs::MOST_AMOUNT;
 
+/// The byte between the arc and the amount of a load.
+const COLON: u8 = b':';
+
 /// A load, and the text that follows it.
 #[derive(Clone, Copy)]
 struct LoadFound<'a> {
@@ -43,7 +46,7 @@ fn load_at(text: &[u8], least: u32) -> Option<LoadFound<'_>>
     ensures shorter { IfSome result (λ found. length found.rest.now < length text.now) }
 {
     let arc = number_at(after_byte(text, b' ')?, u64::from(MOST_NUMBER))?;
-    let amount = number_at(after_byte(arc.rest, b':')?, MOST_AMOUNT)?;
+    let amount = number_at(after_byte(arc.rest, COLON)?, MOST_AMOUNT)?;
     if arc.value < u64::from(least) || amount.value < 1 {
         return None;
     }

@@ -89,9 +89,7 @@ fn refuses_entries(rt: HostRuntime) -> Result<(), Fail> {
         ("#! split 1\n", 2, CertKind::BadLine),
         ("#! split 1 1000000000\n", 2, CertKind::BadLine),
     ] {
-        let text = behind_head(rt.alloc(), rest.as_bytes())
-            .ok()
-            .ok_or("memory")?;
+        let text = behind_head(rt.alloc(), rest.as_bytes())?;
         let fault = fault_of(rt.alloc(), text.as_slice());
         assert_eq!(rt; fault, Some(CertFault { line, kind }), "at {rest}");
     }

@@ -1,9 +1,10 @@
 //! Texts of certificates.
 
 ghost use Rattle.std.specs.Prelude.{◌≡◌, IfOk};
+ghost use Rattle.cert_text.specs.Certificates.{IsPitch};
 ghost use Rattle.cert_text.specs.Loads.{AreLoads, IsCertTree};
 
-use crate::{CertNode, CertTree, Load, print_cert};
+use crate::{CertNode, CertTree, Load, append_cert, print_cert};
 use compact_types::{Axis, Items, NoMemory};
 use std::alloc::Global;
 use std::test::Fail;
@@ -67,22 +68,34 @@ const ONE_SPLIT: &[u8] = b"#! compaction 1 pitch 1\n\
     #! cycle y 0 2\n\
     #! bound x 0:1 1:1 y 1:2 2:1\n";
 
+/// Whether this is the text of the certificate, printed alone and after another text.
+fn is_text(alloc: Global, tree: &CertTree, pitch: u32, expected: &[u8]) -> Result<bool, NoMemory>
+    requires tree { IsCertTree tree.now.nodes }
+    requires pitch { IsPitch pitch }
+{
+    let printed = print_cert(alloc, tree, pitch)?;
+    let mut appended = Items::from_slice(alloc, b"graph [\n]\n")?;
+    append_cert(&mut appended, tree, pitch)?;
+    let mut both = Items::from_slice(alloc, b"graph [\n]\n")?;
+    both.extend_from_slice(expected)?;
+    Ok(printed.as_slice() == expected && appended.as_slice() == both.as_slice())
+}
+
 #[test]
 fn texts_of_certificates(rt: HostRuntime) -> Result<(), Fail> {
     let alloc = rt.alloc();
-    let text = print_cert(alloc, &one_bound(alloc, &[], &[])?, 1)?;
-    assert_eq!(rt;
-        text.as_slice(),
-        b"#! compaction 1 pitch 1\n#! bound x y\n".as_slice()
-    );
-    let text = print_cert(alloc, &one_split(alloc)?, 1)?;
-    assert_eq!(rt; text.as_slice(), ONE_SPLIT);
-    let text = print_cert(alloc, &one_bound(alloc, &GREATEST, &PLAIN)?, 10_000)?;
-    assert_eq!(rt;
-        text.as_slice(),
-        b"#! compaction 1 pitch 10000\n\
-            #! bound x 999999999:999999999999999 y 0:1 1:1\n"
-            .as_slice()
+    let nothing = b"#! compaction 1 pitch 1\n#! bound x y\n";
+    assert!(rt; is_text(alloc, &one_bound(alloc, &[], &[])?, 1, nothing)?);
+    assert!(rt; is_text(alloc, &one_split(alloc)?, 1, ONE_SPLIT)?);
+    let greatest = b"#! compaction 1 pitch 10000\n\
+        #! bound x 999999999:999999999999999 y 0:1 1:1\n";
+    assert!(rt;
+        is_text(
+            alloc,
+            &one_bound(alloc, &GREATEST, &PLAIN)?,
+            10_000,
+            greatest
+        )?
     );
     Ok(())
 }

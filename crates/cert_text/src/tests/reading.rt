@@ -55,9 +55,7 @@ fn reads_a_split(rt: HostRuntime) -> Result<(), Fail> {
         rt.alloc(),
         b"#! split 1 3\n#! bound x 1:2 2:1 y 0:1 1:1\n#! cycle x 0 2\n#! cycle y 0 2\n\
           #! bound x 0:1 1:1 y 1:2 2:1\n",
-    )
-    .ok()
-    .ok_or("memory")?;
+    )?;
     let (pitch, tree) = read(rt.alloc(), text.as_slice())
         .ok_or("short")?
         .ok()

@@ -1,6 +1,6 @@
 //! The entries of a certificate, branch by branch.
 
-ghost use Rattle.std.specs.Prelude.{◌≡◌, ◌↔◌, ◌+◌, [], ◌∷◌, ◌++◌, IfOk, IsTrue, OnOk};
+ghost use Rattle.std.specs.Prelude.{◌≡◌, ◌↔◌, ◌+◌, ◌^◌, ◌<◌, [], ◌∷◌, ◌++◌, IfOk, IsTrue, OnOk};
 ghost use Rattle.cert_text.specs.inner.Outlines.{ComesFirst, HasFewAmounts, HasFirstKey};
 ghost use Rattle.cert_text.specs.inner.Outlines.{HasPointsOf, IsBegun, IsFurther, closing_of};
 ghost use Rattle.cert_text.specs.inner.Positives.{HaveFewAmounts};
@@ -98,16 +98,15 @@ fn split(
     push_branches(waiting, first)
 }
 
-/// Puts four branches on the stack, from the number `first` on, the first of them last. More
-/// branches than there are numbers do not fit into memory.
+/// Puts four branches on the stack, from the number `first` on, the first of them last.
 fn push_branches(waiting: &mut Vec<u64>, first: u64) -> Result<(), NoMemory>
+    requires { first + 3 < 2 ^ 64 }
     ensures { OnOk result (waiting.new.items ≡ waiting.old.items
         ++ (first + 3) ∷ (first + 2) ∷ (first + 1) ∷ first ∷ []) }
 {
-    let last = first.checked_add(3).ok_or(NoMemory)?;
-    waiting.push(last)?;
-    waiting.push(last - 1)?;
-    waiting.push(last - 2)?;
+    waiting.push(first + 3)?;
+    waiting.push(first + 2)?;
+    waiting.push(first + 1)?;
     waiting.push(first)?;
     Ok(())
 }

@@ -37,10 +37,8 @@ mod tests {
 
     #[test]
     fn positive_amounts_are_loads(rt: HostRuntime) -> Result<(), Fail> {
-        let amounts = Items::from_slice(rt.alloc(), &[0, 2, 0, 5]);
-        let amounts = amounts.ok().ok_or("amounts")?;
-        let loads = loads_of(rt.alloc(), &Flow { amounts });
-        let loads = loads.ok().ok_or("loads")?;
+        let amounts = Items::from_slice(rt.alloc(), &[0, 2, 0, 5])?;
+        let loads = loads_of(rt.alloc(), &Flow { amounts })?;
         let expected = [Load { arc: 1, amount: 2 }, Load { arc: 3, amount: 5 }];
         assert_eq!(rt; loads.as_slice(), expected.as_slice());
         Ok(())

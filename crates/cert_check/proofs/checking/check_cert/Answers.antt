@@ -13,13 +13,13 @@ pub returns-clause-answer : goal.returns-clause-answer
 returns-clause-answer c =
     decides_by_walk c.args.bars.now c.args.places.now c.args.tree.now.nodes c.walk.result c.requires.drawing
     (c.is_from_zero.ensures.0 c.if-not-is_from_zero.false)
-    (rw (c.in_ok-answer.ensures.places, c.as_slice.ensures) at c.walk.ensures.good)
-    (rw (c.in_ok-answer.ensures.places, c.as_slice.ensures) at c.walk.ensures.fault)
+    (rw c.as_slice.ensures at c.walk.ensures.good)
+    (rw c.as_slice.ensures at c.walk.ensures.fault)
 
 pub returns-clause-best : goal.returns-clause-best
 returns-clause-best c =
     best_by_walk c.args.bars.now c.args.places.now c.args.tree.now.nodes c.walk.result c.requires.drawing
     (c.is_from_zero.ensures.0 c.if-not-is_from_zero.false)
-    (rw (c.in_ok-answer.ensures.places, c.as_slice.ensures) at c.walk.ensures.good)
-    (rw (c.in_ok-answer.ensures.places, c.as_slice.ensures) at c.walk.ensures.fault)
-    c.in_ok-answer.ensures.sound c.requires.shallow
+    (rw c.as_slice.ensures at c.walk.ensures.good)
+    (rw c.as_slice.ensures at c.walk.ensures.fault)
+    c.shape-what_is_known.ensures.sound c.requires.shallow

@@ -6,5 +6,5 @@ use Rattle.cert_check.proofs.walk.walk.Given as goal
 abbrev pub invariant-loop-entry : goal.invariant-loop-entry
 invariant-loop-entry l = record {
   at : IsAt l.bars l.branch;
-  way : IsAtEntry l.bars l.answer.places l.nodes l.entry (l.branch.choices ∷ later l.branch.choices);
+  way : IsAtEntry l.bars l.answer.places.now l.nodes l.entry (l.branch.choices ∷ later l.branch.choices);
 }
