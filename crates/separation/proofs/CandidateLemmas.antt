@@ -1,7 +1,7 @@
 -- The best pair so far, and what a step of the walk makes of it.
-use Rattle.std.proofs.Common.{◌≡◌, ℕ, ℤ, ◌<◌, ◌≤◌, ◌≤ℤ◌, Bool, true, false, ◌&&◌, ◌||◌, ◌==◌, nat_lt, int_lt, ◌+◌, ◌<ℤ◌, Option, Some, None, List, length, slice_index_or, if◌then◌else◌, ◌⊎◌, inl, inr, subst, sym, ap, refl, ◌∙◌, arith}
+use Rattle.std.proofs.Common.{◌≡◌, ℕ, ◌<◌, ◌≤◌, Bool, true, false, ◌&&◌, ◌||◌, ◌==◌, nat_lt, List, slice_index_or, if◌then◌else◌, ◌⊎◌, inl, inr, subst, sym, ap, refl, ◌∙◌, arith}
 use Rattle.std.specs.List.{count_by}
-use Rattle.std.proofs.lemmas.Bool.{cases_Bool, cases_lt, cases_order, or_cases, or_parts, and_parts, and_cases, eqb-true, eqb-false, ltb-true, ltb-false, cond-true, cond-false}
+use Rattle.std.proofs.lemmas.Bool.{cases_Bool, cases_order, or_cases, or_parts, and_parts, and_cases, eqb-true, eqb-false, ltb-true, ltb-false, cond-true, cond-false}
 use Rattle.std.proofs.lemmas.List.FromFn.{fill_by_all}
 use Rattle.std.proofs.lemmas.Int.{ints}
 use Rattle.compact_types.specs.declared.places.Axis.{Axis}
@@ -10,7 +10,7 @@ use Rattle.compact_types.specs.declared.places.Places.{Places}
 use Rattle.compact_types.specs.declared.plan.Shape.{Shape}
 use Rattle.compact_types.specs.declared.search.Choice.{Choice}
 use Rattle.compact_types.specs.Drawings.{HasWays}
-use Rattle.bars.specs.Segments.{segment_count, IsPair, ShareVertex}
+use Rattle.bars.specs.Segments.{segment_count, ShareVertex}
 use Rattle.bars.specs.Solutions.{HasDrawing}
 use Rattle.bars.proofs.Laws.{low_vertex, high_vertex, low_at, high_at, bounds_from_on}
 use Rattle.separation.specs.declared.candidates.Candidate.{Candidate}
@@ -18,8 +18,9 @@ use Rattle.separation.specs.declared.extents.Extent.{Extent}
 use Rattle.separation.specs.Branching.{IsNotAfter}
 use Rattle.separation.specs.Meetings.{ShareAPoint}
 use Rattle.separation.specs.Reaching.{HasOpenSides}
-use Rattle.separation.specs.inner.Extents.{extent_at, IsExtent, IsExtentAlong, AreExtentsAlong, BeginInOrder, overlap, turned_along}
-use Rattle.separation.specs.inner.Candidates.{comes_before, first_of, IsCandidate, IsFound, Covers, Progress, AreThese, IsSeenWith, IsSeenBefore}
+use Rattle.separation.specs.inner.Extents.{IsExtent, IsExtentAlong, overlap, turned_along}
+use Rattle.separation.specs.inner.Candidates.{comes_before, first_of, IsCandidate, Covers}
+use Rattle.separation.specs.inner.Sweeps.{AreThese}
 use Rattle.separation.proofs.Centre as centre
 use Rattle.separation.proofs.EndLemmas.{overlap_holds, overlap_from}
 
@@ -109,50 +110,38 @@ module _ (shape : Shape) (choices : List Choice) where
           sym (fill_by_all (λ k. slice_index_or second.0 k false) second.0 4 false second.1.four (λ k below. refl))
 
   -- the first of the best so far and one more covers what the best so far covers
-  pub first_keeps : (best : Option Candidate) (c : Candidate) (s t : ℕ) → Covers shape choices best s t → Covers shape choices (first_of best c) s t
-  first_keeps None c s t covers = absurd covers
-  first_keeps (Some b) c s t covers = by_test (cases_Bool (comes_before c b))
+  pub first_keeps : (b c : Candidate) (s t : ℕ) → Covers shape choices b s t → Covers shape choices (first_of b c) s t
+  first_keeps b c s t covers = by_test (cases_Bool (comes_before c b))
     where
-      by_test : (comes_before c b ≡ true) ⊎ (comes_before c b ≡ false) → Covers shape choices (if comes_before c b then Some c else Some b) s t
+      by_test : (comes_before c b ≡ true) ⊎ (comes_before c b ≡ false) → Covers shape choices (if comes_before c b then c else b) s t
       by_test (inl before) =
-          subst (λ (o : Option Candidate). Covers shape choices o s t) (sym (cond-true (comes_before c b) (Some c) (Some b) before))
+          subst (λ (o : Candidate). Covers shape choices o s t) (sym (cond-true (comes_before c b) c b before))
           (λ n has. not_after_trans _ _ _ _ _ _ _ _ _ (before_true c b before) (covers n has))
-      by_test (inr after) =
-          subst (λ (o : Option Candidate). Covers shape choices o s t) (sym (cond-false (comes_before c b) (Some c) (Some b) after)) covers
+      by_test (inr after) = subst (λ (o : Candidate). Covers shape choices o s t) (sym (cond-false (comes_before c b) c b after)) covers
 
-  -- and it covers the one more
-  pub first_covers : (best : Option Candidate) (c : Candidate) → HasOpenSides shape choices c.s c.t c.«open» → Covers shape choices (first_of best c) c.s c.t
-  first_covers best c its = by_best best
+  -- a candidate covers its own pair
+  pub covers_itself : (c : Candidate) → HasOpenSides shape choices c.s c.t c.«open» → Covers shape choices c c.s c.t
+  covers_itself c its n has = inr (one_count c.s c.t c.«open» n its has, inr (refl, omega arith))
+
+  -- and the first of the best so far and one more covers the one more
+  pub first_covers : (b c : Candidate) → HasOpenSides shape choices c.s c.t c.«open» → Covers shape choices (first_of b c) c.s c.t
+  first_covers b c its = by_test (cases_Bool (comes_before c b))
     where
-      itself : (n : ℕ) → HasOpenSides shape choices c.s c.t n → IsNotAfter c.«open» c.s c.t n c.s c.t
-      itself n has = inr (one_count c.s c.t c.«open» n its has, inr (refl, omega arith))
-
-      by_best : (best : Option Candidate) → Covers shape choices (first_of best c) c.s c.t
-      by_best None = itself
-      by_best (Some b) = by_test (cases_Bool (comes_before c b))
-        where
-          by_test : (comes_before c b ≡ true) ⊎ (comes_before c b ≡ false) → Covers shape choices (if comes_before c b then Some c else Some b) c.s c.t
-          by_test (inl before) =
-              subst (λ (o : Option Candidate). Covers shape choices o c.s c.t) (sym (cond-true (comes_before c b) (Some c) (Some b) before)) itself
-          by_test (inr after) =
-              subst (λ (o : Option Candidate). Covers shape choices o c.s c.t) (sym (cond-false (comes_before c b) (Some c) (Some b) after))
-              (λ n has. not_after_trans _ _ _ _ _ _ _ _ _ (before_false c b after) (itself n has))
+      by_test : (comes_before c b ≡ true) ⊎ (comes_before c b ≡ false) → Covers shape choices (if comes_before c b then c else b) c.s c.t
+      by_test (inl before) =
+          subst (λ (o : Candidate). Covers shape choices o c.s c.t) (sym (cond-true (comes_before c b) c b before)) (covers_itself c its)
+      by_test (inr after) =
+          subst (λ (o : Candidate). Covers shape choices o c.s c.t) (sym (cond-false (comes_before c b) c b after))
+          (λ n has. not_after_trans _ _ _ _ _ _ _ _ _ (before_false c b after) (covers_itself c its n has))
 
   -- it is a candidate, if both are
-  pub first_found : (places : Places) (best : Option Candidate) (c : Candidate) → IsCandidate shape choices places c → IsFound shape choices places best →
-      IsFound shape choices places (first_of best c)
-  first_found places best c is found = by_best best found
+  pub first_found : (places : Places) (b c : Candidate) → IsCandidate shape choices places c → IsCandidate shape choices places b →
+      IsCandidate shape choices places (first_of b c)
+  first_found places b c is found = by_test (cases_Bool (comes_before c b))
     where
-      only : (b : Candidate) → IsCandidate shape choices places b → IsFound shape choices places (Some b)
-      only b its d same = let equal : b ≡ d = cc in subst (λ (x : Candidate). IsCandidate shape choices places x) equal its
-
-      by_best : (best : Option Candidate) → IsFound shape choices places best → IsFound shape choices places (first_of best c)
-      by_best None found = only c is
-      by_best (Some b) found = by_test (cases_Bool (comes_before c b))
-        where
-          by_test : (comes_before c b ≡ true) ⊎ (comes_before c b ≡ false) → IsFound shape choices places (if comes_before c b then Some c else Some b)
-          by_test (inl before) = subst (λ (o : Option Candidate). IsFound shape choices places o) (sym (cond-true (comes_before c b) (Some c) (Some b) before)) (only c is)
-          by_test (inr after) = subst (λ (o : Option Candidate). IsFound shape choices places o) (sym (cond-false (comes_before c b) (Some c) (Some b) after)) found
+      by_test : (comes_before c b ≡ true) ⊎ (comes_before c b ≡ false) → IsCandidate shape choices places (if comes_before c b then c else b)
+      by_test (inl before) = subst (λ (o : Candidate). IsCandidate shape choices places o) (sym (cond-true (comes_before c b) c b before)) is
+      by_test (inr after) = subst (λ (o : Candidate). IsCandidate shape choices places o) (sym (cond-false (comes_before c b) c b after)) found
 
 -- extents that overlap do so once both are turned
 overlap_turned : (a b : Extent) → overlap a b ≡ true → overlap (turned_along Y a) (turned_along Y b) ≡ true
@@ -249,94 +238,3 @@ shared_by_these shape a b s t (inl these) share =
 shared_by_these shape a b s t (inr these) share =
     let turned : ShareVertex shape b a = (share.0, share.2, share.1) in
     subst (λ (x : ℕ). ShareVertex shape x t) (sym these.0) (subst (λ (x : ℕ). ShareVertex shape b x) (sym these.1) turned)
-
-module _ (shape : Shape) (choices : List Choice) (places : Places) where
-  -- nothing to look at
-  pub no_progress : (best : Option Candidate) (Seen : ℕ → ℕ → Type 0) → ((s t : ℕ) → Seen s t → IsPair shape s t → ShareAPoint shape places s t → ⊥) →
-      Progress shape choices places best best Seen
-  no_progress best Seen none = record { found = λ found. found; kept = λ s t covers. covers; covered = λ s t seen pair share. absurd (none s t seen pair share) }
-
-  -- two steps
-  pub progress_through : (before middle after : Option Candidate) (First Second Both : ℕ → ℕ → Type 0) →
-      Progress shape choices places before middle First → Progress shape choices places middle after Second → ((s t : ℕ) → Both s t → First s t ⊎ Second s t) →
-      Progress shape choices places before after Both
-  progress_through before middle after First Second Both one two either = record {
-    found = λ found. two.found (one.found found);
-    kept = λ s t covers. two.kept s t (one.kept s t covers);
-    covered = λ s t seen pair share. by_step s t pair share (either s t seen);
-  }
-    where
-      by_step : (s t : ℕ) → IsPair shape s t → ShareAPoint shape places s t → First s t ⊎ Second s t → Covers shape choices after s t
-      by_step s t pair share (inl first) = two.kept s t (one.covered s t first pair share)
-      by_step s t pair share (inr second) = two.covered s t second pair share
-
-  -- a step that looks at one pair
-  pub pair_progress : (axis : Axis) (drawing : HasDrawing shape) (ways : HasWays shape places) (a b : Extent) (best : Option Candidate) (c : Candidate) →
-      IsExtentAlong axis shape places a → IsExtentAlong axis shape places b → overlap a b ≡ true → AreThese a.segment b.segment c.s c.t → IsPair shape c.s c.t →
-      HasOpenSides shape choices c.s c.t c.«open» → Progress shape choices places best (first_of best c) (AreThese a.segment b.segment)
-  pair_progress axis drawing ways a b best c is_a is_b holds these pair open_sides = record {
-    found = first_found shape choices places best c (record { pair = pair; share = (share_along shape drawing places ways axis a b c.s c.t is_a is_b these).0 holds; open_sides = open_sides });
-    kept = first_keeps shape choices best c;
-    covered = λ s t seen other share. (
-        let same = one_order a.segment b.segment c.s c.t s t pair.in_order other.in_order these seen in
-        subst (λ (x : ℕ). Covers shape choices (first_of best c) x t) same.0
-        (subst (λ (x : ℕ). Covers shape choices (first_of best c) c.s x) same.1 (first_covers shape choices best c open_sides)));
-  }
-
-  -- what is asked of fewer pairs
-  pub progress_for : (before after : Option Candidate) (Seen Others : ℕ → ℕ → Type 0) → Progress shape choices places before after Seen →
-      ((s t : ℕ) → Others s t → IsPair shape s t → ShareAPoint shape places s t → Seen s t) → Progress shape choices places before after Others
-  progress_for before after Seen Others step are_seen =
-      record { found = step.found; kept = step.kept; covered = λ s t other pair share. step.covered s t (are_seen s t other pair share) pair share }
-
-  -- one extent more behind extent i
-  pub seen_one_more : (extents : List Extent) (i j n s t : ℕ) → n ≡ j + 1 → IsSeenWith extents i n s t →
-      IsSeenWith extents i j s t ⊎ AreThese (extent_at extents i).segment (extent_at extents j).segment s t
-  seen_one_more extents i j n s t next seen = by_order (cases_lt seen.0 j)
-    where
-      by_order : (seen.0 < j) ⊎ (j ≤ seen.0) → IsSeenWith extents i j s t ⊎ AreThese (extent_at extents i).segment (extent_at extents j).segment s t
-      by_order (inl before) = inl (seen.0, seen.1, before, seen.3)
-      by_order (inr here) =
-          let last = seen.2 in
-          let same : seen.0 ≡ j = omega (arith, here, next, last) in
-          inr (subst (λ (b : ℕ). AreThese (extent_at extents i).segment (extent_at extents b).segment s t) same seen.3)
-
-  -- one extent more that others stand behind
-  pub seen_before_one_more : (extents : List Extent) (i n s t : ℕ) → n ≡ i + 1 → IsSeenBefore extents n s t →
-      IsSeenBefore extents i s t ⊎ IsSeenWith extents i (length extents) s t
-  seen_before_one_more extents i n s t next seen = by_order (cases_lt seen.0 i)
-    where
-      by_order : (seen.0 < i) ⊎ (i ≤ seen.0) → IsSeenBefore extents i s t ⊎ IsSeenWith extents i (length extents) s t
-      by_order (inl before) = inl (seen.0, before, seen.2)
-      by_order (inr here) =
-          let last = seen.1 in
-          let same : seen.0 ≡ i = omega (arith, here, next, last) in
-          inr (subst (λ (a : ℕ). IsSeenWith extents a (length extents) s t) same seen.2)
-
-  -- extents that begin past the end of extent i share no point with it
-  pub none_past : (axis : Axis) (drawing : HasDrawing shape) (ways : HasWays shape places) (extents : List Extent) (i j s t : ℕ) → AreExtentsAlong axis shape places extents → BeginInOrder extents →
-      i < length extents → j < length extents → int_lt (extent_at extents i).right (extent_at extents j).left ≡ true →
-      IsSeenWith extents i (length extents) s t → IsPair shape s t → ShareAPoint shape places s t → IsSeenWith extents i j s t
-  none_past axis drawing ways extents i j s t are in_order i_within j_within past seen pair share = by_order (cases_lt seen.0 j)
-    where
-      left_at : (b : ℕ) → (j < b) ⊎ (b ≡ j) → b < length extents → (extent_at extents j).left ≤ℤ (extent_at extents b).left
-      left_at b (inl behind) within = in_order j b behind within
-      left_at b (inr same) within = let equal : (extent_at extents b).left ≡ (extent_at extents j).left = ap (λ (k : ℕ). (extent_at extents k).left) same in omega (arith, ints, equal)
-
-      behind_or_same : j ≤ seen.0 → (seen.0 ≡ j) ⊎ ((seen.0 < j) ⊎ (j < seen.0)) → (j < seen.0) ⊎ (seen.0 ≡ j)
-      behind_or_same most (inl same) = inr same
-      behind_or_same most (inr (inl less)) = absurd (omega (arith, most, less))
-      behind_or_same most (inr (inr more)) = inl more
-
-      less_than : (x y : ℤ) → int_lt x y ≡ true → x <ℤ y
-      less_than x y less = grind (arith, ints)
-
-      by_order : (seen.0 < j) ⊎ (j ≤ seen.0) → IsSeenWith extents i j s t
-      by_order (inl before) = (seen.0, seen.1, before, seen.3)
-      by_order (inr here) =
-          let gap = less_than (extent_at extents i).right (extent_at extents j).left past in
-          let left = left_at seen.0 (behind_or_same here (cases_order seen.0 j)) seen.2 in
-          let holds = (share_along shape drawing places ways axis (extent_at extents i) (extent_at extents seen.0) s t (are i i_within) (are seen.0 seen.2) seen.3).1 share in
-          let overlaps = overlap_holds (extent_at extents i) (extent_at extents seen.0) holds in
-          let first = overlaps.x_first in
-          absurd (omega (arith, ints, gap, left, first))

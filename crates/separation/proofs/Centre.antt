@@ -386,6 +386,14 @@ side_in_drawing shape places s t is pair =
     by_case (inl side) = side
     by_case (inr share) = absurd (apart_from_drawn shape (places, is) places is.crossing_free.ways is s t pair share)
 
+-- a drawing solves no choices
+pub solves_none : (shape : Shape) (places : Places) → IsDrawing shape places → Solves shape [] places
+solves_none shape places drawing = record {
+  places_fit = drawing.crossing_free.places_fit;
+  ways = drawing.crossing_free.ways;
+  sides = λ i within. absurd (omega (arith, within));
+}
+
 -- places that solve the choices, and in which one more side holds, solve the choices with it
 pub solves_one_more : (shape : Shape) (choices : List Choice) (places : Places) (s t side : ℕ) → Solves shape choices places → SideHolds shape places s t side →
     Solves shape (with_choice choices s t side) places

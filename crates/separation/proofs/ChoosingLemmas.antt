@@ -17,7 +17,8 @@ use Rattle.bars.proofs.Laws.{stands_before, nodes_apart}
 use Rattle.shape_graphs.specs.Separation.{IsSeparated, IsComplete}
 use Rattle.separation.specs.declared.extents.Extent.{Extent}
 use Rattle.separation.specs.declared.sides.Reach.{Reach}
-use Rattle.separation.specs.Extensions.{IsPairBefore, AreBefore, IsLeastSide, IsSettled, IsExtensionOf}
+use Rattle.compact_types.specs.Orders.{IsPairBefore}
+use Rattle.separation.specs.Extensions.{AreBefore, IsLeastSide, IsSettled, IsExtensionOf}
 use Rattle.separation.specs.Reaching.{IsReachOf}
 use Rattle.separation.specs.inner.Choosing.{AreChosen, AreLeast, least_side}
 use Rattle.separation.specs.inner.Extents.{extent_at, IsExtent, AreExtents}

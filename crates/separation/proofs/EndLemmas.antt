@@ -20,7 +20,8 @@ use Rattle.bars.specs.Lines.{line_count}
 use Rattle.bars.specs.Solutions.{HasDrawing}
 use Rattle.bars.proofs.Laws.{low_below, high_below, line_below, level_node, few_lines, few_segments}
 use Rattle.separation.specs.declared.extents.Extent.{Extent}
-use Rattle.separation.specs.inner.Extents.{nowhere, extent_at, number_at, IsAtNode, AreAtNodes, IsExtent, BeginInOrder, ArePut, HasRoom, meet_in_x, meet_in_y, overlap, turned_along, AreTurned, AreExtents, IsExtentAlong, AreExtentsAlong}
+use Rattle.shape_graphs.specs.Flows.{number_at}
+use Rattle.separation.specs.inner.Extents.{nowhere, extent_at, IsAtNode, AreAtNodes, IsExtent, BeginInOrder, ArePut, HasRoom, meet_in_x, meet_in_y, overlap, turned_along, AreTurned, AreExtents, IsExtentAlong, AreExtentsAlong}
 
 -- the nodes of a segment and of a vertex are within the room for all nodes
 pub low_inside : (axis : Axis) (shape : Shape) (s n : ℕ) → s < segment_count shape → node_count axis shape ≤ n → low_node axis shape s < n

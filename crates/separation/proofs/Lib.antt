@@ -1,10 +1,12 @@
 pub mod Centre
 pub mod PairSides
 pub mod Turning
-pub mod SharingLemmas
 pub mod EndLemmas
 pub mod CandidateLemmas
+pub mod SweepLemmas
+pub mod FewestLemmas
 pub mod Sorted
 pub mod ReachLemmas
 pub mod ChoosingLemmas
+pub mod BranchLaws
 pub mod Laws

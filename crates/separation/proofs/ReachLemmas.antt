@@ -1,5 +1,5 @@
 -- The graphs of a list of choices and one more.
-use Rattle.std.proofs.Common.{◌≡◌, ℕ, zero, suc, ◌<◌, ◌≤◌, false, Option, Some, None, List, [], ◌∷◌, ◌++◌, length, take, drop, if◌then◌else◌, subst, sym, ap, refl, ◌∙◌, arith}
+use Rattle.std.proofs.Common.{◌≡◌, ℕ, zero, suc, ◌<◌, ◌≤◌, false, Option, Some, None, List, [], ◌∷◌, ◌++◌, length, take, drop, subst, sym, ap, refl, ◌∙◌, arith}
 use Rattle.std.specs.List.{filter_map, cons_option}
 use Rattle.std.proofs.lemmas.Bool.{cond-true, cond-false}
 use Rattle.std.proofs.lemmas.List.{append_assoc, append-nil, get_or_append_left, take-append-drop}
@@ -16,7 +16,7 @@ use Rattle.bars.specs.Solutions.{with_choice, choice_at}
 use Rattle.bars.proofs.Laws.{is_axis_at}
 use Rattle.shape_graphs.specs.declared.graph.Arc.{Arc}
 use Rattle.shape_graphs.specs.Arcs.{arc_at, no_arc}
-use Rattle.shape_graphs.specs.Graphs.{side_arc, piece_arcs, choice_arcs, arcs_of}
+use Rattle.shape_graphs.specs.Graphs.{side_arc, piece_arcs, choice_arc_along, choice_arcs, arcs_of}
 use Rattle.shape_graphs.specs.Paths.{HasPath}
 use Rattle.shape_graphs.specs.Paths.HasPath.{along_arc, arc_and_path}
 use Rattle.shape_graphs.specs.Separation.{IsSeparated}
@@ -35,16 +35,12 @@ side_high zero above = absurd (omega arith)
 side_high (suc zero) above = absurd (omega arith)
 side_high (suc (suc n)) above = refl
 
--- what a choice gives to the graph of an axis
-abbrev choice_step : Axis → Shape → Choice → Option Arc
-choice_step axis shape choice = if is_axis (side_axis choice.side) axis then Some (side_arc shape choice.s choice.t choice.side) else None
-
 module _ (axis : Axis) (shape : Shape) (choices : List Choice) (s t side : ℕ) where
   abbrev more : List Arc → List Arc
   more l = piece_arcs axis shape ++ (choice_arcs axis shape choices ++ l)
 
-  split : arcs_of axis shape (with_choice choices s t side) ≡ more (cons_option (choice_step axis shape (record { s = s; t = t; side = side })) [])
-  split = ap (λ (l : List Arc). piece_arcs axis shape ++ l) (filter_map-append (choice_step axis shape) choices (record { s = s; t = t; side = side } ∷ []))
+  split : arcs_of axis shape (with_choice choices s t side) ≡ more (cons_option (choice_arc_along axis shape (record { s = s; t = t; side = side })) [])
+  split = ap (λ (l : List Arc). piece_arcs axis shape ++ l) (filter_map-append (choice_arc_along axis shape) choices (record { s = s; t = t; side = side } ∷ []))
 
   -- the arc of the choice comes last, in the graph of its side
   pub arcs_with : side_axis side ≡ axis → arcs_of axis shape (with_choice choices s t side) ≡ arcs_of axis shape choices ++ side_arc shape s t side ∷ []
@@ -86,15 +82,15 @@ separated_stays shape choices j s t separated = (
   separated.0,
   separated.1,
   subst (λ (arcs : List Arc). HasPath arcs (side_arc shape s t separated.0).from (side_arc shape s t separated.0).to) whole
-      (path_stays _ (filter_map (choice_step (side_axis separated.0) shape) (drop j choices)) _ _ separated.2),
+      (path_stays _ (filter_map (choice_arc_along (side_axis separated.0) shape) (drop j choices)) _ _ separated.2),
 )
   where
-    whole : arcs_of (side_axis separated.0) shape (take j choices) ++ filter_map (choice_step (side_axis separated.0) shape) (drop j choices) ≡ arcs_of (side_axis separated.0) shape choices
+    whole : arcs_of (side_axis separated.0) shape (take j choices) ++ filter_map (choice_arc_along (side_axis separated.0) shape) (drop j choices) ≡ arcs_of (side_axis separated.0) shape choices
     whole =
-        append_assoc (piece_arcs (side_axis separated.0) shape) (choice_arcs (side_axis separated.0) shape (take j choices)) (filter_map (choice_step (side_axis separated.0) shape) (drop j choices)) ∙
+        append_assoc (piece_arcs (side_axis separated.0) shape) (choice_arcs (side_axis separated.0) shape (take j choices)) (filter_map (choice_arc_along (side_axis separated.0) shape) (drop j choices)) ∙
         ap (λ (l : List Arc). piece_arcs (side_axis separated.0) shape ++ l)
-        (sym (filter_map-append (choice_step (side_axis separated.0) shape) (take j choices) (drop j choices)) ∙
-        ap (filter_map (choice_step (side_axis separated.0) shape)) (take-append-drop j choices))
+        (sym (filter_map-append (choice_arc_along (side_axis separated.0) shape) (take j choices) (drop j choices)) ∙
+        ap (filter_map (choice_arc_along (side_axis separated.0) shape)) (take-append-drop j choices))
 
 -- the pair of a choice is separated by the choices
 pub chosen_separated : (shape : Shape) (choices : List Choice) (j : ℕ) → j < length choices → (choice_at choices j).side < 4 →

@@ -1,5 +1,5 @@
 -- What a sort of the extents leaves, and what the walk over all of them finds.
-use Rattle.std.proofs.Common.{◌≡◌, ℕ, ◌<◌, Option, Some, None, List, length, ◌⊎◌, inl, inr, subst, sym, ap, refl, ◌∙◌, arith}
+use Rattle.std.proofs.Common.{◌≡◌, ℕ, ◌<◌, List, length, ◌⊎◌, inl, inr, subst, sym, ap, ◌∙◌, arith}
 use Rattle.std.specs.List.{Contains}
 use Rattle.std.proofs.lemmas.List.{get_or_default}
 use Rattle.std.specs.List.Sorted.{IsPermutation}
@@ -17,9 +17,11 @@ use Rattle.separation.specs.declared.candidates.Candidate.{Candidate}
 use Rattle.separation.specs.declared.extents.Extent.{Extent}
 use Rattle.separation.specs.Branching.{IsBranchPair, IsNotAfter}
 use Rattle.separation.specs.inner.Extents.{nowhere, extent_at, IsExtentAlong, AreExtentsAlong, AreInShape}
-use Rattle.separation.specs.inner.Candidates.{IsCandidate, Progress, IsSeenBefore}
+use Rattle.separation.specs.inner.Candidates.{IsBestOf}
+use Rattle.separation.specs.inner.Sweeps.{IsSeen, IsSeenBefore, IsSwept, ShareBefore}
 use Rattle.separation.proofs.Centre.{drawn_from_apart, first_there}
 use Rattle.separation.proofs.CandidateLemmas.{one_count}
+use Rattle.separation.proofs.SweepLemmas.{none_swept}
 
 -- what holds of each extent holds of each once they are sorted
 sorted_keeps : (P : Extent → Type 0) (before after : List Extent) → IsPermutation before after →
@@ -74,22 +76,20 @@ module _ (shape : Shape) (before after : List Extent) (moved : IsPermutation bef
       by_order (inr (inr behind)) = (second.0, second.1, (first.0, behind, first.1, inr (sym first.2, sym second.2)))
 
 module _ (shape : Shape) (choices : List Choice) (places : Places) (extents : List Extent)
-    (seen : (s t : ℕ) → IsPair shape s t → IsSeenBefore extents (length extents) s t) where
+    (seen : (s t : ℕ) → IsPair shape s t → IsSeen extents s t) where
   -- where nothing is found the places are a drawing
   pub drawing_from_none : HasDrawing shape → Solves shape choices places →
-      Progress shape choices places None None (IsSeenBefore extents (length extents)) → IsDrawing shape places
-  drawing_from_none drawing solves step =
-      drawn_from_apart shape drawing places solves.ways solves.places_fit (λ s t pair share. step.covered s t (seen s t pair) pair share)
+      ShareBefore shape places (IsSeen extents) (IsSwept extents (record { first = 0; second = 1 })) → IsDrawing shape places
+  drawing_from_none drawing solves none =
+      drawn_from_apart shape drawing places solves.ways solves.places_fit
+      (λ s t pair share. none_swept extents s t (none s t (seen s t pair) pair share))
 
   -- what is found is the pair of the branch
-  pub pair_from_some : (c : Candidate) → Progress shape choices places None (Some c) (IsSeenBefore extents (length extents)) → IsBranchPair shape choices places c.s c.t
-  pair_from_some c step = record {
-    pair = candidate.pair;
-    share = candidate.share;
+  pub pair_from_best : (c : Candidate) → IsBestOf shape choices places (IsSeen extents) c → IsBranchPair shape choices places c.s c.t
+  pair_from_best c best = record {
+    pair = best.candidate.pair;
+    share = best.candidate.share;
     fewest = λ u v m n pair share has_m has_n. (
-        let covers = step.covered u v (seen u v pair) pair share in
-        subst (λ (x : ℕ). IsNotAfter x c.s c.t n u v) (one_count shape choices c.s c.t _ m candidate.open_sides has_m) (covers n has_n));
+        let covers = best.covered u v (seen u v pair) pair share in
+        subst (λ (x : ℕ). IsNotAfter x c.s c.t n u v) (one_count shape choices c.s c.t _ m best.candidate.open_sides has_m) (covers n has_n));
   }
-    where
-      candidate : IsCandidate shape choices places c
-      candidate = step.found (λ d none. absurd (let e : ◌≡◌ {A = Option Candidate} None (Some d) = none in cc)) c refl

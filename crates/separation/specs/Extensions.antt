@@ -3,14 +3,11 @@ use Rattle.std.specs.Prelude.{◌≡◌, ℕ, ◌<◌, ◌≤◌, ◌⊎◌, Lis
 use Rattle.compact_types.specs.declared.places.Places.{Places}
 use Rattle.compact_types.specs.declared.search.Choice.{Choice}
 use Rattle.compact_types.specs.declared.plan.Shape.{Shape}
+use Rattle.compact_types.specs.Orders.{IsPairBefore}
 use Rattle.bars.specs.Segments.{IsPair}
 use Rattle.bars.specs.Sides.{SideHolds}
 use Rattle.bars.specs.Solutions.{IsChoice, choice_at}
 use Rattle.shape_graphs.specs.Separation.{IsSeparated}
-
--- the pair (s, t) stands before the pair (u, v) in list order
-abbrev pub IsPairBefore : ℕ → ℕ → ℕ → ℕ → Type 0
-IsPairBefore s t u v = (s < u) ⊎ ((s ≡ u) × (t < v))
 
 -- the first j choices are those of pairs before (s, t)
 abbrev pub AreBefore : List Choice → ℕ → ℕ → ℕ → Type 0

@@ -1,4 +1,4 @@
 pub mod Extents
+pub mod Sweeps
 pub mod Candidates
 pub mod Choosing
-pub mod Sharing

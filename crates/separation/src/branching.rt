@@ -13,6 +13,7 @@ ghost use Rattle.separation.specs.inner.Extents.{HasRoom};
 use crate::candidates::fewest_open;
 use crate::extents::{Extent, NOWHERE, ROOM, has_room, put_in_order};
 use crate::sides::Reach;
+use crate::sweep::{START, next_sharing};
 use bars::Bars;
 use compact_types::Places;
 
@@ -83,8 +84,9 @@ fn pair_with(
 {
     let extents = &mut room[..bars.bars() as usize];
     put_in_order(extents, xs, ys, bars, places);
-    match fewest_open(bars, reach, extents) {
-        None => None,
-        Some(found) => Some((found.s, found.t)),
-    }
+    let Some(first) = next_sharing(bars, extents, START) else {
+        return None;
+    };
+    let found = fewest_open(bars, reach, extents, first);
+    Some((found.s, found.t))
 }

@@ -6,16 +6,15 @@ ghost use Rattle.compact_types.specs.declared.places.Axis.{Axis};
 ghost use Rattle.compact_types.specs.declared.places.Axis.TheVariants as axes;
 ghost use Rattle.compact_types.specs.declared.places.Places.{Places};
 ghost use Rattle.compact_types.specs.Drawings.{HasWays};
-ghost use Rattle.compact_types.specs.Lookups.{along, place};
-ghost use Rattle.bars.specs.Segments.{segment_count, node_of, node_count, IsPair};
-ghost use Rattle.separation.specs.inner.Candidates.{IsSeenBefore};
+ghost use Rattle.bars.specs.Segments.{segment_count, node_count, IsPair};
+ghost use Rattle.separation.specs.inner.Sweeps.{IsSeen};
 ghost use Rattle.separation.specs.inner.Extents.{extent_at, AreAtNodes, IsExtent, AreExtents};
 ghost use Rattle.separation.specs.inner.Extents.{BeginInOrder, meet_in_x, meet_in_y, overlap};
 ghost use Rattle.separation.specs.inner.Extents.{turned_along, AreTurned, AreExtentsAlong};
 ghost use Rattle.separation.specs.inner.Extents.{AreInShape, HasRoom};
 
 use bars::Bars;
-use compact_types::{Axis, MOST_VERTICES, Places};
+use compact_types::{Axis, MOST_VERTICES, Places, coordinate};
 
 /// Room for all nodes of a graph, and for all segments.
 pub(crate) const ROOM: usize = MOST_VERTICES as usize;
@@ -62,8 +61,7 @@ pub(crate) fn put_in_order(
     requires ys { node_count axes.Y bars.now ≤ length ys.old }
     ensures in_shape { AreInShape bars.now extents.new }
     ensures in_order { BeginInOrder extents.new }
-    ensures seen { (s t : ℕ) → IsPair bars.now s t →
-        IsSeenBefore extents.new (length extents.new) s t }
+    ensures seen { (s t : ℕ) → IsPair bars.now s t → IsSeen extents.new s t }
     ensures extents { HasWays bars.now places.now →
         (axis : Axis) × AreExtentsAlong axis bars.now places.now extents.new }
 {
@@ -216,29 +214,7 @@ fn put_coordinates(numbers: &mut [i64], bars: &Bars, places: &Places, axis: Axis
         AreAtNodes axis bars.now places.now bars.now.plan.vertices numbers.new }
 {
     for v in 0..bars.shape().plan.vertices {
-        numbers[node_of(bars, axis, v) as usize] = coordinate(places, axis, v);
-    }
-}
-
-/// The node of the vertex in the graph of the axis.
-fn node_of(bars: &Bars, axis: Axis, v: u32) -> u32
-    requires { v < bars.now.plan.vertices }
-    ensures { result ≡ node_of axis bars.now v }
-{
-    match axis {
-        Axis::X => bars.column_of(v),
-        Axis::Y => bars.row_of(v),
-    }
-}
-
-/// The coordinate of the vertex along the axis.
-fn coordinate(places: &Places, axis: Axis, v: u32) -> i64
-    requires { v < length places.now.xy }
-    ensures { result ≡ along axis (place places.now.xy v) }
-{
-    let point = places.xy.as_slice()[v as usize];
-    match axis {
-        Axis::X => point.x,
-        Axis::Y => point.y,
+        let point = places.xy.as_slice()[v as usize];
+        numbers[bars.node_of(axis, v) as usize] = coordinate(axis, point);
     }
 }

@@ -14,13 +14,16 @@ mod law;
 mod sharing;
 mod sides;
 mod splitting;
+mod sweep;
 #[cfg(test)]
 mod tests;
 
 pub use branching::branch_pair;
 pub use complete::is_complete;
 pub use extension::extension_of;
-pub use law::{complete_solutions_are_drawings, drawings_are_apart, drawings_take_a_side};
+pub use law::{
+    branch_pairs_are_one, complete_solutions_are_drawings, drawings_are_apart, drawings_take_a_side,
+};
 pub use sharing::sharing_pair;
 pub use sides::{Reach, Sides, is_separated, open_sides, reach_of};
 pub use splitting::splitting_pair;

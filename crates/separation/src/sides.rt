@@ -1,19 +1,20 @@
 //! The four sides of a pair of segments, looked up in the rows of the two graphs.
 
 ghost use Rattle.std.specs.Prelude.{◌≡◌, ◌<◌, ◌↔◌, IsTrue, IfOk, List};
-ghost use Rattle.compact_types.specs.declared.search.Choice.{Choice};
+ghost use Rattle.compact_types.specs.declared.search.Choice.{Choice as AnyChoice};
 ghost use Rattle.bars.specs.Segments.{node_count, IsPair};
 ghost use Rattle.bars.specs.Sides.{side_axis};
 ghost use Rattle.bars.specs.Solutions.{Fit, with_choice};
-ghost use Rattle.shape_graphs.specs.Graphs.{side_arc, arcs_of};
+ghost use Rattle.shape_graphs.specs.Graphs as graphs;
+ghost use Rattle.shape_graphs.specs.Graphs.{arcs_of};
 ghost use Rattle.shape_graphs.specs.Paths.{HasPath};
 ghost use Rattle.shape_graphs.specs.Separation.{IsKept, IsSeparated};
 ghost use Rattle.separation.specs.Reaching.{IsReachOf, IsReach, ClosesCycle, AreOpenSides};
 
 use bars::Bars;
-use compact_types::{Extension, NoMemory};
+use compact_types::{Choice, Extension, NoMemory};
 use reach_rows::ReachRows;
-use shape_graphs::graphs_of;
+use shape_graphs::{graphs_of, side_arc};
 use std::alloc::Global;
 
 /// The rows of the column graph and of the row graph of an extension: which node reaches which.
@@ -33,7 +34,7 @@ pub struct Sides {
 pub fn is_separated(bars: &Bars, reach: &Reach, s: u32, t: u32) -> bool
     requires pair { IsPair bars.now s t }
     requires reach { IsReach bars.now reach.now }
-    ensures { (choices : List Choice) → IsReachOf bars.now choices reach.now →
+    ensures { (choices : List AnyChoice) → IsReachOf bars.now choices reach.now →
         IsTrue result ↔ IsSeparated bars.now choices s t }
 {
     for side in 0..4 {
@@ -48,7 +49,7 @@ pub fn is_separated(bars: &Bars, reach: &Reach, s: u32, t: u32) -> bool
 pub fn open_sides(bars: &Bars, reach: &Reach, s: u32, t: u32) -> Sides
     requires pair { IsPair bars.now s t }
     requires reach { IsReach bars.now reach.now }
-    ensures { (choices : List Choice) → IsReachOf bars.now choices reach.now →
+    ensures { (choices : List AnyChoice) → IsReachOf bars.now choices reach.now →
         AreOpenSides bars.now choices s t result.is_open }
 {
     Sides {
@@ -77,7 +78,7 @@ pub(crate) fn add_side_arc(reach: &mut Reach, bars: &Bars, s: u32, t: u32, side:
     requires pair { IsPair bars.now s t }
     requires side { side < 4 }
     requires reach { IsReach bars.now reach.old }
-    ensures { (choices : List Choice) → IsReachOf bars.now choices reach.old →
+    ensures { (choices : List AnyChoice) → IsReachOf bars.now choices reach.old →
         IsReachOf bars.now (with_choice choices s t side) reach.new }
 {
     let (from, to) = side_ends(bars, s, t, side);
@@ -93,7 +94,7 @@ fn is_kept(bars: &Bars, reach: &Reach, s: u32, t: u32, side: u8) -> bool
     requires pair { IsPair bars.now s t }
     requires side { side < 4 }
     requires reach { IsReach bars.now reach.now }
-    ensures { (choices : List Choice) → IsReachOf bars.now choices reach.now →
+    ensures { (choices : List AnyChoice) → IsReachOf bars.now choices reach.now →
         IsTrue result ↔ IsKept bars.now choices s t side }
 {
     let (from, to) = side_ends(bars, s, t, side);
@@ -105,7 +106,7 @@ fn closes_cycle(bars: &Bars, reach: &Reach, s: u32, t: u32, side: u8) -> bool
     requires pair { IsPair bars.now s t }
     requires side { side < 4 }
     requires reach { IsReach bars.now reach.now }
-    ensures { (choices : List Choice) → IsReachOf bars.now choices reach.now →
+    ensures { (choices : List AnyChoice) → IsReachOf bars.now choices reach.now →
         IsTrue result ↔ ClosesCycle bars.now choices s t side }
 {
     let (from, to) = side_ends(bars, s, t, side);
@@ -117,17 +118,15 @@ fn closes_cycle(bars: &Bars, reach: &Reach, s: u32, t: u32, side: u8) -> bool
 fn side_ends(bars: &Bars, s: u32, t: u32, side: u8) -> (u32, u32)
     requires pair { IsPair bars.now s t }
     requires side { side < 4 }
-    ensures from { result.0 ≡ (side_arc bars.now s t side).from }
-    ensures to { result.1 ≡ (side_arc bars.now s t side).to }
-    ensures begins { (side_arc bars.now s t side).from < node_count (side_axis side) bars.now }
-    ensures ends { (side_arc bars.now s t side).to < node_count (side_axis side) bars.now }
+    ensures from { result.0 ≡ (graphs.side_arc bars.now s t side).from }
+    ensures to { result.1 ≡ (graphs.side_arc bars.now s t side).to }
+    ensures begins { (graphs.side_arc bars.now s t side).from
+        < node_count (side_axis side) bars.now }
+    ensures ends { (graphs.side_arc bars.now s t side).to
+        < node_count (side_axis side) bars.now }
 {
-    match side {
-        0 => (bars.right(s), bars.left(t)),
-        1 => (bars.right(t), bars.left(s)),
-        2 => (bars.high(s), bars.low(t)),
-        _ => (bars.high(t), bars.low(s)),
-    }
+    let arc = side_arc(bars, Choice { s, t, side });
+    (arc.from, arc.to)
 }
 
 /// Whether a path leads from node `a` to node `b` in the graph in which the arc of this side
@@ -137,7 +136,7 @@ fn leads(bars: &Bars, reach: &Reach, side: u8, a: u32, b: u32) -> bool
     requires begins { a < node_count (side_axis side) bars.now }
     requires ends { b < node_count (side_axis side) bars.now }
     requires reach { IsReach bars.now reach.now }
-    ensures { (choices : List Choice) → IsReachOf bars.now choices reach.now →
+    ensures { (choices : List AnyChoice) → IsReachOf bars.now choices reach.now →
         IsTrue result ↔ HasPath (arcs_of (side_axis side) bars.now choices) a b }
 {
     if side < 2 {

@@ -11,8 +11,8 @@ ghost use Rattle.separation.specs.inner.Extents.{HasRoom};
 
 use crate::candidates::fewest_open;
 use crate::extents::{Extent, NOWHERE, ROOM, has_room, put_in_order};
-use crate::sharing::first_sharing;
 use crate::sides::reach_of;
+use crate::sweep::{START, next_sharing};
 use bars::Bars;
 use compact_types::{Extension, NoMemory, Places};
 use std::alloc::Global;
@@ -88,13 +88,10 @@ fn splitting_with(
 {
     let extents = &mut room[..bars.bars() as usize];
     put_in_order(extents, xs, ys, bars, places);
-    match first_sharing(bars, extents) {
-        None => return Ok(None),
-        Some(_) => {}
-    }
+    let Some(first) = next_sharing(bars, extents, START) else {
+        return Ok(None);
+    };
     let reach = reach_of(alloc, bars, extension)?;
-    match fewest_open(bars, &reach, extents) {
-        None => Ok(None),
-        Some(found) => Ok(Some((found.s, found.t))),
-    }
+    let found = fewest_open(bars, &reach, extents, first);
+    Ok(Some((found.s, found.t)))
 }

@@ -1,8 +1,9 @@
 //! What the calls answer on small drawings, worked out by hand.
 
 use crate::{Sides, branch_pair, extension_of, is_complete, is_separated, open_sides};
-use compact_types::{Choice, NoMemory};
-use examples::{Example, drawn, example_of, is_pair, places_of, rows_of};
+use bars::bars_of_points;
+use compact_types::{Choice, NoMemory, Places};
+use examples::{Example, example_of, rows_of};
 use shape_graphs::{Arc, find_cycle, graphs_of};
 use std::alloc::Global;
 use std::test::Fail;
@@ -12,7 +13,7 @@ mod stairs;
 
 /// A spine with an arm at each end, of which the lower one turns up: its segments are the rows
 /// 0 and 1 of the lower and the upper arm, the column 2 of the spine, and the column 3 of the turn.
-const SPINE: [(u8, u8); 5] = [(0, 0), (0, 10), (20, 0), (20, 5), (10, 10)];
+const SPINE: [(i32, i32); 5] = [(0, 0), (0, 10), (20, 0), (20, 5), (10, 10)];
 
 /// The pieces of the spine: between its ends, to the turn, up, and to the end of the upper arm.
 const SPINE_ENDS: [(u32, u32); 4] = [(0, 1), (0, 2), (2, 3), (1, 4)];
@@ -29,7 +30,7 @@ fn arm_and_turn(side: u8) -> Choice {
 
 /// Which sides of the pair are open; `None` where it is no pair.
 fn sides_at(alloc: Global, example: &Example, s: u32, t: u32) -> Result<Option<Sides>, NoMemory> {
-    if !is_pair(&example.bars, s, t) {
+    if !example.bars.is_pair(s, t) {
         return Ok(None);
     }
     let reach = rows_of(alloc, example)?;
@@ -43,7 +44,7 @@ fn separated_at(
     s: u32,
     t: u32,
 ) -> Result<Option<bool>, NoMemory> {
-    if !is_pair(&example.bars, s, t) {
+    if !example.bars.is_pair(s, t) {
         return Ok(None);
     }
     let reach = rows_of(alloc, example)?;
@@ -86,9 +87,9 @@ fn leads_with_arc(
 fn splits_at(
     alloc: Global,
     example: &Example,
-    points: &[(u8, u8)],
+    points: &[(i32, i32)],
 ) -> Result<Option<(u32, u32)>, Fail> {
-    let places = places_of(alloc, points)?;
+    let places = Places::at(alloc, points)?;
     if places.xy.len() != example.bars.shape().plan.vertices as usize {
         return Err(Fail::new("no place for each vertex"));
     }
@@ -99,11 +100,11 @@ fn splits_at(
 /// Whether the drawing with these points and pieces gives the extension of these choices.
 fn extends_by(
     alloc: Global,
-    points: &[(u8, u8)],
+    points: &[(i32, i32)],
     ends: &[(u32, u32)],
     choices: &[Choice],
 ) -> Result<bool, Fail> {
-    let drawn = drawn(alloc, points, ends)?.ok_or("no drawing")?;
+    let drawn = bars_of_points(alloc, points, ends)?.ok_or("no drawing")?;
     let extension = extension_of(alloc, &drawn.0, &drawn.1)?;
     Ok(extension.choices.as_slice() == choices)
 }

@@ -4,12 +4,13 @@ use Rattle.compact_types.specs.declared.places.Places.{Places}
 use Rattle.compact_types.specs.declared.search.Choice.{Choice}
 use Rattle.compact_types.specs.declared.plan.Shape.{Shape}
 use Rattle.compact_types.specs.Drawings.{IsDrawing}
+use Rattle.compact_types.specs.Orders.{IsPairBefore}
 use Rattle.bars.specs.Segments.{IsPair}
 use Rattle.bars.specs.Solutions.{IsChoice, choice_at}
 use Rattle.shape_graphs.specs.Separation.{IsSeparated}
 use Rattle.separation.specs.declared.extents.Extent.{Extent}
 use Rattle.separation.specs.declared.sides.Reach.{Reach}
-use Rattle.separation.specs.Extensions.{IsPairBefore, AreBefore, IsLeastSide, IsSettled}
+use Rattle.separation.specs.Extensions.{AreBefore, IsLeastSide, IsSettled}
 use Rattle.separation.specs.Reaching.{IsReachOf}
 use Rattle.separation.specs.inner.Extents.{extent_at, AreExtents}
 

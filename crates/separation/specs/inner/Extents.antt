@@ -7,6 +7,7 @@ use Rattle.compact_types.specs.declared.plan.Shape.{Shape}
 use Rattle.compact_types.specs.Drawings.{HasWays}
 use Rattle.compact_types.specs.Lookups.{along, place}
 use Rattle.bars.specs.Segments.{segment_count, node_of, node_count, low_node, high_node}
+use Rattle.shape_graphs.specs.Flows.{number_at}
 use Rattle.separation.specs.declared.extents.Extent.{Extent}
 
 -- the extent that stands for one that is not there
@@ -15,10 +16,6 @@ nowhere = record { segment = 0; left = pos 0; right = pos 0; low = pos 0; high =
 
 abbrev pub extent_at : List Extent → ℕ → Extent
 extent_at extents k = slice_index_or extents k nowhere
-
--- the coordinate of a node
-abbrev pub number_at : List ℤ → ℕ → ℤ
-number_at numbers node = slice_index_or numbers node (pos 0)
 
 -- the number is the coordinate of the vertices of the node
 abbrev pub IsAtNode : Axis → Shape → Places → ℕ → ℤ → Type 0

@@ -1,17 +1,17 @@
 //! A pair that shares a point, on the spine and behind a stair that needs more room.
 
-use super::examples::{Example, example_of, places_of};
+use super::examples::{Example, example_of};
 use super::spine;
 use crate::sharing_pair;
-use compact_types::NoMemory;
+use compact_types::{NoMemory, Places};
 use std::alloc::Global;
 use std::test::Fail;
 
 /// The vertices of a stair of 70 steps from (0, 0) to (35, 35), and then these four.
-fn stair(alloc: Global, others: [(u8, u8); 4]) -> Result<Vec<(u8, u8)>, NoMemory> {
+fn stair(alloc: Global, others: [(i32, i32); 4]) -> Result<Vec<(i32, i32)>, NoMemory> {
     let mut points = Vec::new(alloc);
     for v in 0..71u8 {
-        points.push((v.div_ceil(2), v / 2))?;
+        points.push((i32::from(v.div_ceil(2)), i32::from(v / 2)))?;
     }
     for point in &others {
         points.push(*point)?;
@@ -35,9 +35,9 @@ fn stair_ends(alloc: Global) -> Result<Vec<(u32, u32)>, NoMemory> {
 fn sharing_at(
     alloc: Global,
     example: &Example,
-    points: &[(u8, u8)],
+    points: &[(i32, i32)],
 ) -> Result<Option<(u32, u32)>, Fail> {
-    let places = places_of(alloc, points)?;
+    let places = Places::at(alloc, points)?;
     if places.xy.len() != example.bars.shape().plan.vertices as usize {
         return Err(Fail::new("no place for each vertex"));
     }
