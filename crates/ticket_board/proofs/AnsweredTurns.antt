@@ -26,7 +26,7 @@ use Rattle.ticket_board.specs.Passes.{PassView, Begins, HasSeenMore, IsHolding, 
 use Rattle.ticket_board.specs.Turns.{ChildrenFit, IsClaimed, IsGranted, IsSettledOn}
 use Rattle.ticket_board.specs.inner.Views.{after_turn, pass_of, view_in}
 use Rattle.ticket_board.specs.inner.Plays.{Sat, IsBoardOf}
-use Rattle.ticket_board.specs.inner.Turns.{IsTaken}
+use Rattle.ticket_board.specs.inner.Turns.{AddsOwn, IsTaken}
 use Rattle.ticket_board.proofs.Histories.{begins_longer, begins_with, by-append}
 
 -- a list that goes on contains what the rest does
@@ -135,15 +135,10 @@ module _ {P : Type 0} (objective : Objective) (Backs : Shape → List Choice →
       IsClaimed old branch claim new
   claims old new board after branch claim now known answer legal = subst (IsClaimed old branch claim) (sym now) (answers_claim old board after branch claim known answer legal)
 
-  later_claim : (old : PassView) (board after : BoardView P) (branch : Branch) (claim : Claim) → IsKnownBoard old board → IsClaimAnswer board old.number branch claim after → Begins old.seen after.entries
-  later_claim old board after branch Stranger known answer = subst (λ (board : BoardView P). Begins old.seen board.entries) (sym answer.1) known.later
-  later_claim old board after branch Taken known answer = subst (λ (board : BoardView P). Begins old.seen board.entries) (sym answer.2) known.later
-  later_claim old board after branch Yours known answer =
-      begins_longer old.seen board.entries after.entries known.later (begins_with board.entries (entry.Claimed old.number branch.id ∷ []) after.entries (ap (λ (board : BoardView P). board.entries) answer.2))
-
-  pub more_claimed : (old new : PassView) (board after : BoardView P) (branch : Branch) (claim : Claim) → new ≡ turned old after.entries → IsKnownBoard old board → IsClaimAnswer board old.number branch claim after → IsLegal after.entries →
-      HasSeenMore old new
-  more_claimed old new board after branch claim now known answer legal = sees_more old new after.entries now (later_claim old board after branch claim known answer) legal
+  -- what the pass has seen after its turn begins with what it had seen
+  pub more : (number : ℕ) (old new : PassView) (board after : BoardView P) → new ≡ turned old after.entries → IsKnownBoard old board → AddsOwn number board after → IsLegal after.entries → HasSeenMore old new
+  more number old new board after now known own legal =
+      sees_more old new after.entries now (begins_longer old.seen board.entries after.entries known.later (begins_with board.entries own.added after.entries own.entries)) legal
 
   -- a branch that the pass holds is held on the board, with the choices that the pass knows
   held_in : (history : List Entry) (number id : ℕ) (mine : List Entry) → IsLegal history → entries_by number history ≡ mine → Contains mine (entry.Claimed number id) →
@@ -179,23 +174,8 @@ module _ {P : Type 0} (objective : Objective) (Backs : Shape → List Choice →
         mine = own_more old.number board.entries after.entries old.mine settled refl seen known.own;
       })
 
-  pub more_settled : (old new : PassView) (board after : BoardView P) (id : ℕ) (verdict : Verdict P) (what : Settled) → new ≡ turned old after.entries → IsKnownBoard old board → after ≡ after_settle board old.number id verdict what → IsLegal after.entries →
-      HasSeenMore old new
-  more_settled old new board after id verdict what now known same legal =
-      sees_more old new after.entries now
-      (begins_longer old.seen board.entries after.entries known.later (begins_with board.entries (entry.Settled old.number id what ∷ []) after.entries (ap (λ (board : BoardView P). board.entries) same))) legal
-
-  pub more_as_before : (old new : PassView) (board after : BoardView P) → new ≡ turned old after.entries → IsKnownBoard old board → after ≡ board → IsLegal after.entries → HasSeenMore old new
-  more_as_before old new board after now known same legal = sees_more old new after.entries now (subst (λ (board : BoardView P). Begins old.seen board.entries) (sym same) known.later) legal
-
   pub mine_as_before : (old new : PassView) (board after : BoardView P) → new ≡ turned old after.entries → IsKnownBoard old board → after ≡ board → new.mine ≡ old.mine
   mine_as_before old new board after now known same = ap (λ (pass : PassView). pass.mine) now ∙ ap (λ (board : BoardView P). entries_by old.number board.entries) same ∙ known.own
-
-  -- by the result of a settle
-  pub more_by_result : {E : Type 0} (old new : PassView) (board after : BoardView P) (id : ℕ) (verdict : Verdict P) (result : Result Settled E) → new ≡ turned old after.entries → IsKnownBoard old board →
-      MatchResult result (λ what. after ≡ after_settle board old.number id verdict what) (λ refused. after ≡ board) → IsLegal after.entries → HasSeenMore old new
-  more_by_result old new board after id verdict (Ok what) now known same legal = more_settled old new board after id verdict what now known same legal
-  more_by_result old new board after id verdict (Err refused) now known same legal = more_as_before old new board after now known same legal
 
   pub answers_settle : {E : Type 0} (old new : PassView) (board after : BoardView P) (id : ℕ) (verdict : Verdict P) (pair : Option (ℕ × ℕ)) (result : Result Settled E) → new ≡ turned old after.entries → IsKnownBoard old board → IsHolding old id →
       IfOk result (IsOutcome board verdict pair) → IfOk result ChildrenFit → MatchResult result (λ what. after ≡ after_settle board old.number id verdict what) (λ refused. after ≡ board) →

@@ -1,5 +1,5 @@
 -- What a pass shows of its caller.
-use Rattle.std.specs.Prelude.{◌≡◌, ℕ, ◌+◌, ◌<◌, ◌==◌, List, [], ◌++◌, length, filter, slice_get, Some, Contains}
+use Rattle.std.specs.Prelude.{◌≡◌, ◌⊎◌, ℕ, ◌+◌, ◌<◌, ◌==◌, List, [], ◌++◌, length, filter, slice_get, Some, Contains}
 use Rattle.atomic_table.specs.Seated.{TableId}
 use Rattle.compact_types.specs.declared.plan.Shape.{Shape}
 use Rattle.board.specs.declared.entries.Entry.{Entry}
@@ -67,5 +67,6 @@ pub record HasSeenMore (old new : PassView) : Type 0 where
 pub record HaveMet (old other new : PassView) : Type 0 where
   pub more : HasSeenMore old new
   pub told : Begins other.seen new.seen
+  pub one : (new.seen ≡ old.seen) ⊎ (new.seen ≡ other.seen)
   pub mine : new.mine ≡ old.mine
   pub turns : new.turns ≡ old.turns

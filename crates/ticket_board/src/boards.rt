@@ -7,10 +7,12 @@ ghost use Rattle.board.specs.Histories.{IsHeldBy, choices_of, open_count_of, sta
 ghost use Rattle.board.specs.Verdicts.{IsBranchPairFor, IsSoundVerdict};
 ghost use Rattle.ticket_board.specs.Passes.{Begins, HasSeenMore, HaveMet, IsHolding, entries_by};
 ghost use Rattle.ticket_board.specs.Turns.{ChildrenFit, IsClaimed, IsSettledOn};
+ghost use Rattle.ticket_board.specs.inner.Turns.{AddsOwn};
 
+use crate::claiming::claim_on;
+use crate::meeting::{compare, join};
 use crate::passes::Pass;
-use crate::plays::{Compare, Meet};
-use crate::rules::{Founding, InTurns, SERVED};
+use crate::rules::{Founding, InTurns};
 use crate::turns::{begin_turn, end_turn, sit_down};
 use crate::views::View;
 use atomic_table::Table;
@@ -52,9 +54,10 @@ impl<P: Backing> TicketBoard<P> {
         ensures turn { pass.new.turns ≡ pass.old.turns + 1 }
         ensures answer { IsClaimed pass.old branch.now result pass.new }
     {
+        let who = pass.number;
         let desk = &self.table.shared;
         let (seat, mut board) = begin_turn(rt, desk, &mut pass.badge);
-        let claim = board.claim(pass.number, branch);
+        let claim = claim_on(&mut board, who, branch);
         pass.badge = end_turn(desk, seat, board);
         claim
     }
@@ -118,8 +121,8 @@ impl<P: Backing> TicketBoard<P> {
             number: _,
             mut badge,
         } = other;
-        desk.join_seat::<Meet>(&mut seat, sit_down(&mut badge));
-        desk.load::<Compare>(&mut seat, SERVED);
+        join(desk, &mut seat, sit_down(&mut badge));
+        compare(desk, &mut seat);
         pass.badge = seat.into_badge();
     }
 
@@ -159,6 +162,7 @@ fn settle_held<P: Backing>(
     ensures board { MatchResult result
         (λ what. board.new ≡ after_settle board.old who id verdict what)
         (λ refused. board.new ≡ board.old) }
+    ensures adds { AddsOwn who board.old board.new }
 {
     match board.settle(who, id, verdict, pair) {
         Ok(what) => {

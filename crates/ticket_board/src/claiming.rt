@@ -1,16 +1,17 @@
-//! The claim of a caller that solves the branch from the proof of its parent.
+//! Claims, and the claim of a caller that solves the branch from the proof of its parent.
 
 ghost use Rattle.std.specs.Prelude.{◌≡◌, ◌+◌, IfOk};
+ghost use Rattle.board.specs.Boards.{IsCaller, IsClaimAnswer};
 ghost use Rattle.ticket_board.specs.Passes.{HasSeenMore};
 ghost use Rattle.ticket_board.specs.Turns.{IsClaimed, IsStartOf};
-ghost use Rattle.ticket_board.specs.inner.Turns.{IsProofBefore};
+ghost use Rattle.ticket_board.specs.inner.Turns.{AddsOwn, IsProofBefore};
 
 use crate::boards::TicketBoard;
 use crate::passes::Pass;
 use crate::turns::{begin_turn, end_turn};
 use board::{Board, Claim};
 use compact_types::{Branch, NoMemory};
-use shape_graphs::Measure;
+use shape_graphs::{Backing, Measure};
 use std::alloc::Global;
 use std::sync::Wait;
 
@@ -35,10 +36,22 @@ pub fn claim_with_proof<M: Measure, R: Wait>(
 {
     let desk = &board.table.shared;
     let (seat, mut inside) = begin_turn(rt, desk, &mut pass.badge);
-    let claim = inside.claim(pass.number, branch);
+    let claim = claim_on(&mut inside, pass.number, branch);
     let proof = copied_proof(alloc, measure, &inside, branch, claim);
     pass.badge = end_turn(desk, seat, inside);
     (claim, proof)
+}
+
+/// Claims the branch on the board that the caller has in its turn. To the history it adds nothing but
+/// an entry of the caller.
+pub(crate) fn claim_on<P: Backing>(board: &mut Board<P>, who: u32, branch: &Branch) -> Claim
+    requires { IsCaller board.old.given who }
+    ensures answer { IsClaimAnswer board.old who branch.now result board.new }
+    ensures adds { AddsOwn who board.old board.new }
+{
+    let claim = board.claim(who, branch);
+    let _what_is_known = board.open_count();
+    claim
 }
 
 /// A copy of the proof of the verdict on the branch from which this one was opened, if the claim

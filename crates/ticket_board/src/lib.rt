@@ -9,9 +9,12 @@
 mod boards;
 mod claiming;
 mod dealing;
+mod meeting;
 mod passes;
 mod plays;
 mod rules;
+#[cfg(test)]
+mod tests;
 mod turns;
 mod views;
 

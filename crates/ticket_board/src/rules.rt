@@ -18,13 +18,13 @@ pub(crate) const SLOT: usize = 0;
 
 /// How the board stood when it came on the table, and the number of the first caller.
 #[derive(Drop)]
-pub struct Founding<P: Backing> {
+pub(crate) struct Founding<P: Backing> {
     pub board: Snapshot<Board<P>>,
     pub first: u32,
 }
 
 /// The callers take turns, in the order of their tickets.
-pub struct InTurns;
+pub(crate) struct InTurns;
 
 impl<P: Backing> TableRule<Option<Board<P>>, View, Founding<P>> for InTurns {
     ghost use Rattle.ticket_board.specs.inner.Rules.{IsKept};

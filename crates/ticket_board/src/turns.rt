@@ -21,8 +21,8 @@ use shape_graphs::Backing;
 use std::mem;
 use std::sync::Wait;
 
-/// Begins a turn of the pass that the badge is of: it leaves its seat there, and the board, moved
-/// out, is the caller's until the turn ends.
+/// Begins a turn: takes the seat out of the badge, waits for the seat's turn, and moves the board
+/// out of the slot. The caller has both until the turn ends.
 pub(crate) fn begin_turn<P: Backing, R: Wait>(
     rt: &R,
     desk: &Desk<P>,
@@ -45,7 +45,8 @@ pub(crate) fn begin_turn<P: Backing, R: Wait>(
     (seat, board)
 }
 
-/// Ends the turn: the board goes back, the next ticket is served, and the pass gets its badge.
+/// Ends the turn: moves the board back into the slot, passes the turn on, and makes a badge of the
+/// seat again.
 pub(crate) fn end_turn<P: Backing>(desk: &Desk<P>, seat: Place<P>, board: Board<P>) -> Badge<View>
     requires table { seat.table_id ≡ desk.now.table_id }
     requires sized { IsSized desk.now.table_id }
@@ -71,8 +72,9 @@ pub(crate) fn sit_down<P: Backing>(badge: &mut Badge<View>) -> Place<P>
     mem::replace(badge, Badge::blank()).into_seat()
 }
 
-/// Waits for as long as the next ticket would not be served at once, so that few callers wait with
-/// a ticket in their hands. What it looks at tells it nothing.
+/// Waits until the next ticket would be served at once, so that few callers wait with a ticket in
+/// their hands: a ticket whose caller does not run holds up all later ones. The two loads teach
+/// nothing, so another caller may still draw first.
 fn approach<P: Backing, R: Wait>(rt: &R, desk: &Desk<P>)
     requires { IsSized desk.now.table_id }
 {

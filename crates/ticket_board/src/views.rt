@@ -3,8 +3,8 @@
 use board::Entry;
 use compact_types::Shape;
 
-/// Where the caller of a seat is in its turns.
-pub enum Stage {
+/// What the caller of a seat is doing.
+pub(crate) enum Stage {
     /// It gave its pass away.
     Gone,
     /// It is between two turns.
@@ -16,7 +16,7 @@ pub enum Stage {
 }
 
 /// What a seat knows. No value of it is made. Contracts read an array as a list, of any length.
-pub struct View {
+pub(crate) struct View {
     pub stage: Stage,
     /// How many seats there are, in the one that deals the others out, and else 0.
     pub dealt: u64,

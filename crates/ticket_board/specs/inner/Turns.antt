@@ -27,6 +27,15 @@ pub record IsTaken {P : Type 0} (before : View) (board : BoardView P) (me : Sat 
   pub view : me.0 ≡ serving (with_ticket before ticket) board.entries
   pub slot : me.1 ≡ (0, None) ∷ []
 
+-- The board is of the shape and the callers that it was of, and its history has grown by entries of
+-- this caller alone.
+pub record AddsOwn {P : Type 0} (number : ℕ) (before after : BoardView P) : Type 0 where
+  pub shape : after.shape ≡ before.shape
+  pub given : after.given ≡ before.given
+  pub added : List Entry
+  pub entries : after.entries ≡ before.entries ++ added
+  pub no_other : (other : ℕ) → other ≢ number → entries_by other added ≡ []
+
 -- the board may go back: it is of the same shape and callers, and to the history that the seat noted
 -- no entry of another caller was added
 pub record Adds {P : Type 0} (view : View) (board : BoardView P) : Type 0 where

@@ -4,8 +4,8 @@ use Rattle.board.specs.Boards.{after_settle}
 use Rattle.board.specs.Histories.{IsHeldBy, IsLegal}
 use Rattle.board.specs.Boards.{board_state}
 use Rattle.ticket_board.specs.Passes.{entries_by}
-use Rattle.ticket_board.proofs.AddedEntries.{adds_by_result}
-use Rattle.ticket_board.proofs.AnsweredTurns.{answers_settle, ends, held_there, knows, more_by_result, pair_there, same_choices, verdict_there}
+use Rattle.ticket_board.proofs.AddedEntries.{goes_back}
+use Rattle.ticket_board.proofs.AnsweredTurns.{answers_settle, ends, held_there, knows, more, pair_there, same_choices, verdict_there}
 use Rattle.ticket_board.proofs.boards.TicketBoard.settle.Goals as goal
 
 pub settle_held-settled-requires-clause-held : goal.settle_held-settled-requires-clause-held
@@ -40,24 +40,15 @@ settle_held-settled-requires-clause-pair g c κs within =
 
 pub end_turn-requires-clause-adds : goal.end_turn-requires-clause-adds
 end_turn-requires-clause-adds g c κs within =
-    let begun = c.begin_turn-seat.ensures in
-    let settled = c.settle_held-settled in
-    adds_by_result _ _ _ _ c.args.id c.args.verdict settled.result begun.taken begun.its
-    (subst (λ number. MatchResult settled.result (λ what. settled.new.board ≡ after_settle c.begin_turn-seat.result.1 number c.args.id c.args.verdict what)
-    (λ refused. settled.new.board ≡ c.begin_turn-seat.result.1)) c.pass.invariant.same settled.ensures.board)
+    goes_back _ _ _ _ _ c.begin_turn-seat.ensures.taken c.begin_turn-seat.ensures.its c.pass.invariant.same c.settle_held-settled.ensures.adds
 
 pub returns-clause-more : goal.returns-clause-more
 returns-clause-more g c =
     let begun = c.begin_turn-seat.ensures in
-    let settled = c.settle_held-settled in
     let old = c.args.pass.now in
-    let number = c.pass.invariant.same ∙ ap (λ pass. pass.number) c.pass.view_is in
-    more_by_result g.P.Backing.objective g.P.Backing.backs old _ c.begin_turn-seat.result.1 settled.new.board c.args.id c.args.verdict settled.result
+    more g.P.Backing.objective g.P.Backing.backs _ old _ _ c.settle_held-settled.new.board
     (ends _ _ _ _ _ _ _ old c.pass.view_is begun.taken (c.end_turn.ensures.table ∙ begun.table) c.end_turn.ensures.views)
-    (knows g.P.Backing.objective g.P.Backing.backs _ _ _ old c.pass.view_is begun.its begun.facts)
-    (subst (λ number. MatchResult settled.result (λ what. settled.new.board ≡ after_settle c.begin_turn-seat.result.1 number c.args.id c.args.verdict what)
-    (λ refused. settled.new.board ≡ c.begin_turn-seat.result.1)) number settled.ensures.board)
-    c.end_turn.ensures.legal
+    (knows g.P.Backing.objective g.P.Backing.backs _ _ _ old c.pass.view_is begun.its begun.facts) c.settle_held-settled.ensures.adds c.end_turn.ensures.legal
 
 pub returns-clause-answer : goal.returns-clause-answer
 returns-clause-answer g c =

@@ -1,0 +1,6 @@
+use Rattle.std.proofs.Common.{refl}
+use Rattle.board.proofs.DotLemmas.{dot_sound}
+use Rattle.ticket_board.proofs.tests.dot.Goals as goal
+
+pub bars_of-requires : goal.bars_of-requires
+bars_of-requires c = dot_sound _ (record { vertices = refl; pieces = c.new-pieces.ensures })
