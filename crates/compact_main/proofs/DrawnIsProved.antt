@@ -26,12 +26,12 @@ use Rattle.cert_text.specs.declared.tree.CertNode.{CertNode}
 use Rattle.cert_text.specs.Certificates.{IsBeforeLine, IsPitch, IsCertificate}
 use Rattle.cert_text.specs.Loads.{IsCertTree}
 use Rattle.cert_text.specs.Texts.{certificate_text}
-use Rattle.cert_text.proofs.Laws.{printed_certificate}
+use Rattle.cert_text.proofs.Laws.{printed_certificate, spelled_with_certificate}
 use Rattle.compact_main.specs.declared.drawing.Drawing.{Drawing}
 use Rattle.compact_main.specs.Drawings.{HoldsDrawing, shape_of, step_of, AreBestPlaces, IsAccepted, IsOnGridAt, text_with}
 use Rattle.compact_main.proofs.BestDrawings.{can_put}
 use Rattle.compact_main.proofs.ProvedAnswers.{some_step}
-use Rattle.compact_main.proofs.WrittenTexts.{spelled_with_certificate, printed_before_line}
+use Rattle.compact_main.proofs.PrintedLines.{printed_before_line}
 
 -- as many points, each in thousandths
 as_many : (pitch : ℕ) (points : List Point) → length (map (in_thousandths pitch) points) ≡ length points
@@ -86,6 +86,7 @@ pub drawn_is_proved : (text : List ℕ) (drawing : Drawing) (places : Places) (p
 drawn_is_proved text drawing places pitch nodes written holds can tree accepted is =
     let some = can.some_pitch in
     let most = can.most_pitch in
+    let pitched : IsPitch pitch = record { some = some; most = most } in
     let moved : Reading = moved_reading drawing.reading places pitch in
     let new : Tree = placed drawing.tree drawing.reading.spots places pitch in
     let before : IsBeforeLine (printed new) = printed_before_line new in
@@ -98,13 +99,13 @@ drawn_is_proved text drawing places pitch nodes written holds can tree accepted 
     let proved : IsProvedBy (printed new ++ certificate_text pitch nodes) (shape_of drawing) places pitch nodes = record {
       drawing = record { tree = back.read; reading = moved; bars = shape_of drawing };
       holds = record {
-        spelled = spelled_with_certificate (printed new) back.read pitch nodes before (omega (arith, most)) tree.in_range back.spelled;
+        spelled = spelled_with_certificate (printed new) back.read pitch nodes before pitched tree back.spelled;
         read = read;
         checked = shape_of_scaled (step_of pitch) drawing.reading.plan (shape_of drawing) drawing.reading.places moved.places places (some_step pitch some) scaled
             holds.checked accepted.drawing.crossing_free;
       };
       same_shape = refl;
-      certificate = printed_certificate (printed new) pitch nodes before (record { some = some; most = most }) tree;
+      certificate = printed_certificate (printed new) pitch nodes before pitched tree;
       scaled = scaled;
       accepted = accepted;
     } in

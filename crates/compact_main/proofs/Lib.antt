@@ -18,7 +18,7 @@ pub mod SampleDrawings
 pub mod SampleSizes
 pub mod SampleLaws
 pub mod ShownBest
-pub mod WrittenTexts
+pub mod PrintedLines
 pub mod DrawnIsProved
 pub mod ProvedAnswers
 pub mod CommandAnswers

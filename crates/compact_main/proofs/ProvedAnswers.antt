@@ -20,8 +20,8 @@ use Rattle.cert_text.specs.Loads.{IsCertTree}
 use Rattle.cert_text.specs.Texts.{head_line, entry_line, entry_lines, certificate_text}
 use Rattle.cert_text.specs.Trees.{IsShallow}
 use Rattle.cert_check.specs.declared.fault.CheckFault.{CheckFault}
-use Rattle.compact_types.proofs.Laws.{drawing-scaled, one_scaled, scaled_not_off, one_first_off, some_scaled_or_off}
-use Rattle.cert_text.proofs.Laws.{accepted_best, one_certificate, whole_shallow, shallower_from}
+use Rattle.compact_types.proofs.Laws.{drawing-scaled, within-scaled, one_scaled, scaled_not_off, one_first_off, some_scaled_or_off}
+use Rattle.cert_text.proofs.Laws.{accepted_best, few_entries, one_certificate, whole_shallow, shallower_from}
 use Rattle.cert_check.proofs.Laws.{one_check, only_fault, no_fault}
 use Rattle.gml_text.specs.declared.limits.TheConstants.{MOST_BYTES}
 use Rattle.compact_main.specs.declared.command.Command.TheVariants.{Verify}
@@ -38,60 +38,6 @@ use Rattle.compact_main.proofs.Sound.{is_drawing, sound_shape, within_limits}
 pub some_step : (pitch : ℕ) → 1 ≤ pitch → pos 1 ≤ℤ step_of pitch
 some_step pitch some = omega (arith, ints, some)
 
--- the size of a number is its magnitude
-within_size : (bound : ℕ) (z : ℤ) → IsWithin bound z → unsigned_abs z ≤ bound
-within_size bound (pos n) is = let high = is.high in omega (arith, ints, high)
-within_size bound (negsuc n) is = let low = is.low in omega (arith, ints, low)
-
-size_within : (bound : ℕ) (z : ℤ) → unsigned_abs z ≤ bound → IsWithin bound z
-size_within bound (pos n) most = record { low = omega (arith, ints, most); high = omega (arith, ints, most) }
-size_within bound (negsuc n) most = record { low = omega (arith, ints, most); high = omega (arith, ints, most) }
-
--- places on the grid are a thousand times nearer in grid steps
-lesser_factor : (pitch bound size : ℕ) → 1 ≤ pitch → 1000 * pitch * size ≤ 1000 * bound → size ≤ bound
-lesser_factor pitch bound size some most = let more = mul-le-mul_left size some in omega (arith, most, more)
-
-nearer : (pitch bound : ℕ) (coordinate step : ℤ) → 1 ≤ pitch → coordinate ≡ step_of pitch *ℤ step → IsWithin (1000 * bound) coordinate → IsWithin bound step
-nearer pitch bound coordinate step some is within =
-    let most = within_size (1000 * bound) coordinate within in
-    let size : unsigned_abs coordinate ≡ 1000 * pitch * unsigned_abs step = ap unsigned_abs is ∙ unsigned_abs-mul (step_of pitch) step in
-    size_within bound step (lesser_factor pitch bound (unsigned_abs step) some (omega (arith, most, size)))
-
-pub wider : (places : Places) → AreWithin GREATEST_COORDINATE places → AreWithin GREATEST_THOUSANDTHS places
-wider places within axis v inside =
-    let low = (within axis v inside).low in
-    let high = (within axis v inside).high in
-    record { low = omega (arith, ints, low); high = omega (arith, ints, high) }
-
-pub near_on_grid : (pitch : ℕ) (places scaled : Places) → 1 ≤ pitch → IsScaled (step_of pitch) places scaled →
-    AreWithin GREATEST_THOUSANDTHS places → AreWithin GREATEST_COORDINATE scaled
-near_on_grid pitch places scaled some is within axis v inside =
-    let points = is.points in
-    let there : v < length places.xy = omega (arith, inside, points) in
-    nearer pitch GREATEST_COORDINATE (along axis (place places.xy v)) (along axis (place scaled.xy v)) some (is.each axis v there) (within axis v there)
-
--- a certificate has fewer entries than its text has bytes
-some_byte : (node : CertNode) → 1 ≤ length (entry_line node)
-some_byte (Split s t) = omega arith
-some_byte (Bound x y) = omega arith
-some_byte (Cycle axis arcs) = omega arith
-
-few_entries : (nodes : List CertNode) → length nodes ≤ length (entry_lines nodes)
-few_entries [] = omega arith
-few_entries (node ∷ nodes) =
-    let some = some_byte node in
-    let rest = few_entries nodes in
-    let whole = length-append (entry_line node) (entry_lines nodes) in
-    omega (arith, some, rest, whole)
-
-few_in_text : (text : List ℕ) (pitch : ℕ) (nodes : List CertNode) → IsCertificate text pitch nodes → length nodes ≤ length text
-few_in_text text pitch nodes is =
-    let entries = few_entries nodes in
-    let front = length-append is.front (certificate_text pitch nodes) in
-    let head = length-append (head_line pitch) (entry_lines nodes) in
-    let cut : length text ≡ length (is.front ++ certificate_text pitch nodes) = ap length is.cut.head.cut in
-    omega (arith, entries, front, head, cut)
-
 -- a certificate is no deeper than it is long
 pub shallow : (nodes : List CertNode) → IsCertTree nodes → length nodes ≤ MOST_BYTES → IsShallow MOST_CHOICES nodes
 shallow nodes tree few =
@@ -99,13 +45,17 @@ shallow nodes tree few =
 
 -- what is asked for a check is there
 module _ (text : List ℕ) (drawing : Drawing) (input : IsInput Verify text drawing) where
+  near : (pitch : ℕ) (places : Places) → IsPitch pitch → IsOnGridAt drawing pitch places → AreWithin GREATEST_THOUSANDTHS places
+  near pitch places pitched scaled =
+      within-scaled (step_of pitch) GREATEST_THOUSANDTHS drawing.reading.places places (some_step pitch pitched.some) scaled
+      (within_limits drawing.tree drawing.reading input.holds.read).within_reach
+
   pub can_check : (pitch : ℕ) (nodes : List CertNode) (places : Places) → IsPitch pitch → IsCertTree nodes → length nodes ≤ MOST_BYTES →
       IsOnGridAt drawing pitch places → CanCheck (shape_of drawing) places nodes
   can_check pitch nodes places pitched tree few scaled = record {
     drawing = drawing-scaled (step_of pitch) (shape_of drawing) drawing.reading.places places (some_step pitch pitched.some) scaled
         (is_drawing drawing.reading.plan drawing.reading.places (shape_of drawing) input.holds.checked);
-    near = near_on_grid pitch drawing.reading.places places pitched.some scaled
-        (within_limits drawing.tree drawing.reading input.holds.read).within_reach;
+    near = near pitch places pitched scaled;
     whole = tree.whole;
     in_range = tree.in_range;
     shallow = shallow nodes tree few;
@@ -118,13 +68,13 @@ module _ (text : List ℕ) (drawing : Drawing) (input : IsInput Verify text draw
       let planned = subst (λ (p : Plan). length drawing.reading.places.xy ≡ p.vertices) (sym input.holds.checked.same_plan) limits.places_fit in
       record {
         fit = sym scaled.points ∙ planned;
-        near = wider places (near_on_grid pitch drawing.reading.places places pitched.some scaled limits.within_reach);
+        near = near pitch places pitched scaled;
       }
 
 -- a proved drawing is the best one of its shape
 pub proved_best : (text : List ℕ) (drawing : Drawing) (places : Places) → IsProved text drawing places → AreBestPlaces drawing places
 proved_best text drawing places is =
-    let few = few_in_text text is.pitch is.nodes is.certificate in
+    let few = few_entries text is.pitch is.nodes is.certificate in
     let within = is.input.within in
     let can = can_check text drawing is.input is.pitch is.nodes places is.certificate.pitched is.certificate.tree (omega (arith, few, within)) is.scaled in
     accepted_best (shape_of drawing) places is.nodes
@@ -230,7 +180,7 @@ module _ (text : List ℕ) (drawing : Drawing) (input : IsInput Verify text draw
       ((places : Places) × IsOn text drawing found places) ⊎ ((vertex : ℕ) × IsOff text drawing found vertex) → HasCause
   by_grid found is (inl (places, on)) =
       let few : length found.1.nodes ≤ MOST_BYTES =
-      (let least = few_in_text text found.0 found.1.nodes is in let within = input.within in omega (arith, least, within)) in
+      (let least = few_entries text found.0 found.1.nodes is in let within = input.within in omega (arith, least, within)) in
       let can = can_check text drawing input found.0 found.1.nodes places is.pitched is.tree few on in
       let sound = sound_shape drawing.tree drawing.reading (shape_of drawing) input.holds.read input.holds.checked in
       by_check found places is on (one_check (shape_of drawing) places found.1.nodes sound can.drawing can.whole can.in_range can.shallow).some

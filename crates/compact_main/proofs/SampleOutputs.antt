@@ -2,7 +2,7 @@
 use Rattle.std.proofs.Common.{◌≡◌, ℕ, ◌≤◌, List, Result, Ok, Err, arith}
 use Rattle.std.specs.Prelude.{IfOk}
 use Rattle.std.proofs.lemmas.Int.{ints}
-use Rattle.compact_types.specs.declared.limits.TheConstants.{GREATEST_COORDINATE, GREATEST_PLACE}
+use Rattle.compact_types.specs.declared.limits.TheConstants.{GREATEST_PLACE, GREATEST_THOUSANDTHS}
 use Rattle.compact_types.specs.declared.places.Axis.TheVariants.{X, Y}
 use Rattle.compact_types.specs.declared.places.Places.{Places}
 use Rattle.compact_types.specs.declared.plan.Shape.{Shape}
@@ -19,11 +19,11 @@ use Rattle.compact_main.specs.declared.sample.TheConstants.{MOST_SAMPLE}
 use Rattle.compact_main.specs.Samples.{IsSample, sample_text, greatest_along, IsSampleOutput}
 use Rattle.compact_main.specs.inner.Proofs.{CanCheck, CanMeasure}
 use Rattle.compact_main.proofs.BestDrawings.{best_within}
-use Rattle.compact_main.proofs.ProvedAnswers.{wider}
-use Rattle.compact_main.proofs.ShownBest.{shallow_enough, shown_best}
+use Rattle.cert_text.proofs.Laws.{made_best}
+use Rattle.compact_main.proofs.ShownBest.{shallow_enough}
 use Rattle.compact_main.proofs.SampleLaws.{sound_sample}
 
-near_in_steps : (places : Places) → AreWithin GREATEST_PLACE places → AreWithin GREATEST_COORDINATE places
+near_in_steps : (places : Places) → AreWithin GREATEST_PLACE places → AreWithin GREATEST_THOUSANDTHS places
 near_in_steps places within axis v inside =
     let low = (within axis v inside).low in
     let high = (within axis v inside).high in
@@ -36,10 +36,10 @@ module _ (number : ℕ) (shape : Shape) (places best : Places) (some : 1 ≤ num
 
   -- a certificate that shows it by itself: accepted, and shallow
   pub sample_shown : (nodes : List CertNode) → Accepts shape best nodes → IsShallow MOST_SPLITS nodes → IsBest total_length shape best
-  sample_shown nodes accepted shallow = shown_best shape best nodes sound accepted shallow
+  sample_shown nodes accepted shallow = made_best shape best nodes sound shallow accepted
 
   module _ (first : IsBest total_length shape best) where
-    near : AreWithin GREATEST_COORDINATE best
+    near : AreWithin GREATEST_THOUSANDTHS best
     near = near_in_steps best (best_within shape sound best first)
 
     -- its certificate can be checked
@@ -54,7 +54,7 @@ module _ (number : ℕ) (shape : Shape) (places best : Places) (some : 1 ≤ num
 
     -- its best drawing can be measured
     pub sample_measured : CanMeasure shape best
-    sample_measured = record { fit = first.drawing.crossing_free.places_fit; near = wider best near }
+    sample_measured = record { fit = first.drawing.crossing_free.places_fit; near = near }
 
     -- and is what is told of
     pub sample_told : {E : Type 0} (nodes : List CertNode) (result : Result (List ℕ) E) → Accepts shape best nodes → IsShallow MOST_SPLITS nodes →

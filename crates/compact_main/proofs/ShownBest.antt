@@ -9,12 +9,10 @@ use Rattle.compact_types.specs.Bests.{total_length, IsBest}
 use Rattle.shape_graphs.specs.Backings.{DoBack}
 use Rattle.workers.specs.declared.alone.Best.{Best}
 use Rattle.workers.specs.Searches.{HasEnded}
-use Rattle.bars.specs.Solutions.{IsSound}
 use Rattle.cert_text.specs.declared.tree.CertNode.{CertNode}
 use Rattle.cert_text.specs.declared.trimming.TheConstants.{MOST_SPLITS}
-use Rattle.cert_text.specs.Accepting.{Accepts}
 use Rattle.cert_text.specs.Trees.{IsShallow}
-use Rattle.cert_text.proofs.Laws.{accepted_best, shallower_from}
+use Rattle.cert_text.proofs.Laws.{made_best, shallower_from}
 use Rattle.compact_main.specs.declared.drawing.Drawing.{Drawing}
 use Rattle.compact_main.specs.declared.command.Form.TheVariants.{Certified}
 use Rattle.compact_main.specs.Drawings.{shape_of, HoldsDrawing, AreBestPlaces, IsAccepted}
@@ -26,15 +24,11 @@ use Rattle.compact_main.proofs.Sound.{sound_shape}
 pub shallow_enough : (nodes : List CertNode) → IsShallow MOST_SPLITS nodes → IsShallow MOST_CHOICES nodes
 shallow_enough nodes shallow = shallower_from MOST_SPLITS MOST_CHOICES nodes (0 ∷ []) (omega arith) shallow
 
-pub shown_best : (shape : Shape) (places : Places) (nodes : List CertNode) → IsSound shape → Accepts shape places nodes → IsShallow MOST_SPLITS nodes →
-    IsBest total_length shape places
-shown_best shape places nodes sound accepted shallow = accepted_best shape places nodes sound (shallow_enough nodes shallow) accepted
-
--- so of a drawing that a text holds
+-- of a drawing that a text holds
 pub shown_of_text : (text : List ℕ) (drawing : Drawing) (places : Places) (nodes : List CertNode) → HoldsDrawing text drawing →
     IsAccepted drawing places nodes → IsShallow MOST_SPLITS nodes → AreBestPlaces drawing places
 shown_of_text text drawing places nodes holds accepted shallow =
-    shown_best (shape_of drawing) places nodes (sound_shape drawing.tree drawing.reading (shape_of drawing) holds.read holds.checked) accepted shallow
+    made_best (shape_of drawing) places nodes (sound_shape drawing.tree drawing.reading (shape_of drawing) holds.read holds.checked) shallow accepted
 
 -- a front and the certificate after it are a drawing with its certificate
 pub drawn_certified : {E : Type 0} (drawing : Drawing) (pitch : ℕ) (places : Places) (nodes : List CertNode) (front : List ℕ) (result : Result (List ℕ) E) →

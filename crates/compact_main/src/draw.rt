@@ -15,7 +15,7 @@ use crate::command::{Command, Form};
 use crate::drawing::{Drawing, input_of};
 use crate::search::{Search, certificate_of};
 use crate::status::Failure;
-use cert_text::{CertTree, print_cert};
+use cert_text::{CertTree, append_cert};
 use compact_types::{Flows, Items, NoMemory, Places, Refusal};
 use gml_print::{print_tree, with_places};
 use std::alloc::Global;
@@ -80,12 +80,11 @@ fn write_certified(
 {
     let tree = certificate_of(alloc, &drawing.bars, best)?;
     let text = print(alloc, drawing, &best.key.places, pitch)?;
-    with_certificate(alloc, text, &tree, pitch)
+    with_certificate(text, &tree, pitch)
 }
 
 /// The text with the certificate after it.
 fn with_certificate(
-    alloc: Global,
     mut text: Items<u8>,
     tree: &CertTree,
     pitch: u32,
@@ -94,8 +93,7 @@ fn with_certificate(
     requires pitch { IsPitch pitch }
     ensures { IfOk result (IsCertified pitch text tree.now.nodes) }
 {
-    let certificate = print_cert(alloc, tree, pitch)?;
-    text.extend_from_slice(certificate.as_slice())?;
+    append_cert(&mut text, tree, pitch)?;
     Ok(text)
 }
 

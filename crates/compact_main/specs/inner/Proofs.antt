@@ -1,7 +1,6 @@
 -- What is asked for the check of a certificate, and for the length of places.
 use Rattle.std.specs.Prelude.{◌≡◌, ℕ, List, length, All, ℤ}
-use Rattle.compact_types.specs.declared.limits.TheConstants.{GREATEST_COORDINATE, GREATEST_THOUSANDTHS}
-use Rattle.compact_types.specs.declared.limits.TheConstants.{MOST_CHOICES}
+use Rattle.compact_types.specs.declared.limits.TheConstants.{GREATEST_THOUSANDTHS, MOST_CHOICES}
 use Rattle.compact_types.specs.declared.places.Places.{Places}
 use Rattle.compact_types.specs.declared.plan.Shape.{Shape}
 use Rattle.compact_types.specs.Drawings.{IsDrawing}
@@ -16,7 +15,7 @@ use Rattle.compact_main.specs.Outputs.{IsProved}
 -- a certificate can be checked for the places
 pub record CanCheck (shape : Shape) (places : Places) (nodes : List CertNode) : Type 0 where
   pub drawing : IsDrawing shape places
-  pub near : AreWithin GREATEST_COORDINATE places
+  pub near : AreWithin GREATEST_THOUSANDTHS places
   pub whole : IsWhole nodes
   pub in_range : All IsInRange nodes
   pub shallow : IsShallow MOST_CHOICES nodes
