@@ -15,7 +15,7 @@ use Rattle.compact_main.specs.declared.words.Request.{Request}
 use Rattle.compact_main.specs.Commands.{texts_of, IsNumberTo, AreOptions, form_of, AskForDrawing, Asks, IsWithinLimits}
 use Rattle.compact_main.specs.Commands.AreOptions.{no_words, plain_first, pitch_first}
 use Rattle.compact_main.specs.inner.Askings.{AreFound, IsRequest}
-use Rattle.compact_main.proofs.OptionWords.{one_options}
+use Rattle.compact_main.proofs.OptionWords.{one_number, one_options}
 
 -- commands by their first word
 pub as_drawing : (command : List ℕ) (options : List (List ℕ)) (result : Option Request) → command ≡ codes "draw" →
@@ -119,3 +119,41 @@ pub one_drawing : (words : List (List ℕ)) (p q : ℕ) (f g : Form) → AskForD
 one_drawing words p q f g (a, are, of, is) (b, too, of_too, is_too) =
     let same = one_options words a b are too in
     (of ∙ ap (λ (o : Options). unwrap_or o.pitch 1) same ∙ sym of_too, is ∙ ap form_of same ∙ sym is_too)
+
+-- the words ask for one command at most
+first_word : (words : List (List ℕ)) {a b : List ℕ} {rest others : List (List ℕ)} → words ≡ a ∷ rest → words ≡ b ∷ others → a ≡ b
+first_word words p q = let both = sym p ∙ q in cc
+
+pub one_command : (words : List (List ℕ)) (a b : Command) → Asks words a → Asks words b → a ≡ b
+one_command words (commands.Draw a f) (commands.Draw b g) (po, p, pa) (qo, q, qa) =
+    let both = sym p ∙ q in
+    let same : po ≡ qo = cc in
+    let equal = one_drawing qo a b f g (subst (λ (o : List (List ℕ)). AskForDrawing o a f) same pa) qa in
+    λ i. commands.Draw (equal.0 i) (equal.1 i)
+one_command words (commands.Draw a f) commands.Check (po, p, pa) q = let no : codes "draw" ≡ codes "check" = first_word words p q in cc
+one_command words (commands.Draw a f) commands.Measure (po, p, pa) q = let no : codes "draw" ≡ codes "measure" = first_word words p q in cc
+one_command words (commands.Draw a f) commands.Verify (po, p, pa) q = let no : codes "draw" ≡ codes "verify" = first_word words p q in cc
+one_command words (commands.Draw a f) (commands.Sample b) (po, p, pa) (qd, q, qa) = let no : codes "draw" ≡ codes "sample" = first_word words p q in cc
+one_command words commands.Check (commands.Draw b g) p (qo, q, qa) = let no : codes "check" ≡ codes "draw" = first_word words p q in cc
+one_command words commands.Check commands.Check p q = refl
+one_command words commands.Check commands.Measure p q = let no : codes "check" ≡ codes "measure" = first_word words p q in cc
+one_command words commands.Check commands.Verify p q = let no : codes "check" ≡ codes "verify" = first_word words p q in cc
+one_command words commands.Check (commands.Sample b) p (qd, q, qa) = let no : codes "check" ≡ codes "sample" = first_word words p q in cc
+one_command words commands.Measure (commands.Draw b g) p (qo, q, qa) = let no : codes "measure" ≡ codes "draw" = first_word words p q in cc
+one_command words commands.Measure commands.Check p q = let no : codes "measure" ≡ codes "check" = first_word words p q in cc
+one_command words commands.Measure commands.Measure p q = refl
+one_command words commands.Measure commands.Verify p q = let no : codes "measure" ≡ codes "verify" = first_word words p q in cc
+one_command words commands.Measure (commands.Sample b) p (qd, q, qa) = let no : codes "measure" ≡ codes "sample" = first_word words p q in cc
+one_command words commands.Verify (commands.Draw b g) p (qo, q, qa) = let no : codes "verify" ≡ codes "draw" = first_word words p q in cc
+one_command words commands.Verify commands.Check p q = let no : codes "verify" ≡ codes "check" = first_word words p q in cc
+one_command words commands.Verify commands.Measure p q = let no : codes "verify" ≡ codes "measure" = first_word words p q in cc
+one_command words commands.Verify commands.Verify p q = refl
+one_command words commands.Verify (commands.Sample b) p (qd, q, qa) = let no : codes "verify" ≡ codes "sample" = first_word words p q in cc
+one_command words (commands.Sample a) (commands.Draw b g) (pd, p, pa) (qo, q, qa) = let no : codes "sample" ≡ codes "draw" = first_word words p q in cc
+one_command words (commands.Sample a) commands.Check (pd, p, pa) q = let no : codes "sample" ≡ codes "check" = first_word words p q in cc
+one_command words (commands.Sample a) commands.Measure (pd, p, pa) q = let no : codes "sample" ≡ codes "measure" = first_word words p q in cc
+one_command words (commands.Sample a) commands.Verify (pd, p, pa) q = let no : codes "sample" ≡ codes "verify" = first_word words p q in cc
+one_command words (commands.Sample a) (commands.Sample b) (pd, p, pa) (qd, q, qa) =
+    let both = sym p ∙ q in
+    let same : pd ≡ qd = cc in
+    ap (λ (n : ℕ). commands.Sample n) (one_number MOST_SAMPLE qd a b (omega arith) (subst (λ (d : List ℕ). IsNumberTo MOST_SAMPLE d a) same pa) qa)

@@ -24,4 +24,5 @@ pub mod ProvedAnswers
 pub mod CommandAnswers
 pub mod CommandOutputs
 pub mod SampleOutputs
+pub mod RunReadings
 pub mod RunEnds

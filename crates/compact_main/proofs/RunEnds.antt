@@ -22,86 +22,8 @@ use Rattle.compact_main.specs.Statuses.{status_of}
 use Rattle.compact_main.specs.inner.Readings.{IsGivenUp}
 use Rattle.compact_main.specs.inner.Writes.{IsWritten}
 use Rattle.compact_main.proofs.CommandAnswers.{output_valid, command_answer}
-use Rattle.compact_main.proofs.CommandWords.{one_drawing}
-use Rattle.compact_main.proofs.OptionWords.{one_number}
-
--- the words ask for one command at most
-first_word : (words : List (List ℕ)) {a b : List ℕ} {rest others : List (List ℕ)} → words ≡ a ∷ rest → words ≡ b ∷ others → a ≡ b
-first_word words p q = let both = sym p ∙ q in cc
-
-pub one_command : (words : List (List ℕ)) (a b : Command) → Asks words a → Asks words b → a ≡ b
-one_command words (commands.Draw a f) (commands.Draw b g) (po, p, pa) (qo, q, qa) =
-    let both = sym p ∙ q in
-    let same : po ≡ qo = cc in
-    let equal = one_drawing qo a b f g (subst (λ (o : List (List ℕ)). AskForDrawing o a f) same pa) qa in
-    λ i. commands.Draw (equal.0 i) (equal.1 i)
-one_command words (commands.Draw a f) commands.Check (po, p, pa) q = let no : codes "draw" ≡ codes "check" = first_word words p q in cc
-one_command words (commands.Draw a f) commands.Measure (po, p, pa) q = let no : codes "draw" ≡ codes "measure" = first_word words p q in cc
-one_command words (commands.Draw a f) commands.Verify (po, p, pa) q = let no : codes "draw" ≡ codes "verify" = first_word words p q in cc
-one_command words (commands.Draw a f) (commands.Sample b) (po, p, pa) (qd, q, qa) = let no : codes "draw" ≡ codes "sample" = first_word words p q in cc
-one_command words commands.Check (commands.Draw b g) p (qo, q, qa) = let no : codes "check" ≡ codes "draw" = first_word words p q in cc
-one_command words commands.Check commands.Check p q = refl
-one_command words commands.Check commands.Measure p q = let no : codes "check" ≡ codes "measure" = first_word words p q in cc
-one_command words commands.Check commands.Verify p q = let no : codes "check" ≡ codes "verify" = first_word words p q in cc
-one_command words commands.Check (commands.Sample b) p (qd, q, qa) = let no : codes "check" ≡ codes "sample" = first_word words p q in cc
-one_command words commands.Measure (commands.Draw b g) p (qo, q, qa) = let no : codes "measure" ≡ codes "draw" = first_word words p q in cc
-one_command words commands.Measure commands.Check p q = let no : codes "measure" ≡ codes "check" = first_word words p q in cc
-one_command words commands.Measure commands.Measure p q = refl
-one_command words commands.Measure commands.Verify p q = let no : codes "measure" ≡ codes "verify" = first_word words p q in cc
-one_command words commands.Measure (commands.Sample b) p (qd, q, qa) = let no : codes "measure" ≡ codes "sample" = first_word words p q in cc
-one_command words commands.Verify (commands.Draw b g) p (qo, q, qa) = let no : codes "verify" ≡ codes "draw" = first_word words p q in cc
-one_command words commands.Verify commands.Check p q = let no : codes "verify" ≡ codes "check" = first_word words p q in cc
-one_command words commands.Verify commands.Measure p q = let no : codes "verify" ≡ codes "measure" = first_word words p q in cc
-one_command words commands.Verify commands.Verify p q = refl
-one_command words commands.Verify (commands.Sample b) p (qd, q, qa) = let no : codes "verify" ≡ codes "sample" = first_word words p q in cc
-one_command words (commands.Sample a) (commands.Draw b g) (pd, p, pa) (qo, q, qa) = let no : codes "sample" ≡ codes "draw" = first_word words p q in cc
-one_command words (commands.Sample a) commands.Check (pd, p, pa) q = let no : codes "sample" ≡ codes "check" = first_word words p q in cc
-one_command words (commands.Sample a) commands.Measure (pd, p, pa) q = let no : codes "sample" ≡ codes "measure" = first_word words p q in cc
-one_command words (commands.Sample a) commands.Verify (pd, p, pa) q = let no : codes "sample" ≡ codes "verify" = first_word words p q in cc
-one_command words (commands.Sample a) (commands.Sample b) (pd, p, pa) (qd, q, qa) =
-    let both = sym p ∙ q in
-    let same : pd ≡ qd = cc in
-    ap (λ (n : ℕ). commands.Sample n) (one_number MOST_SAMPLE qd a b (omega arith) (subst (λ (d : List ℕ). IsNumberTo MOST_SAMPLE d a) same pa) qa)
-
--- what was read to the end is all that was left
-read_whole : (left left' : Option (List ℕ)) (text bytes : List ℕ) → left ≡ Some text → Consumes left left' bytes → IsAtEnd left' → bytes ≡ text
-read_whole left left' text bytes known read end = by_rest left' (subst (λ (l : Option (List ℕ)). Consumes l left' bytes) known read) end
-  where
-    by_rest : (l : Option (List ℕ)) → Consumes (Some text) l bytes → IsAtEnd l → bytes ≡ text
-    by_rest None r e = absurd r
-    by_rest (Some rest) r e = sym (r ∙ ap (λ xs. bytes ++ xs) e ∙ append-nil bytes)
-
--- what was read is the whole text, where one is read
-module _ {S : Type 0} (left : S → Option (List ℕ)) (read_faults : S → ℕ) (source source' : S) where
-  whole_text : (intake : Intake) (text whole : List ℕ) → IsGiven intake left read_faults source source' whole → Takes intake left source source' text →
-      IsReadOut intake left source' → text ≡ whole
-  whole_text (a_text limit) text whole given read end = read_whole (left source) (left source') whole text given.0 read end
-  whole_text nothing text whole given read end = read.1 ∙ sym given
-
-  -- what was given before the reading was given up
-  pub gave_too_much : (command : Command) → IsGivenUp (intake_of command) left source source' ends.TooLong →
-      (given : List ℕ) × Takes (intake_of command) left source source' given × FirstRefusal command given TooLong
-  gave_too_much (commands.Draw pitch form) (given, read, more) = (given, read, more)
-  gave_too_much commands.Check (given, read, more) = (given, read, more)
-  gave_too_much commands.Measure (given, read, more) = (given, read, more)
-  gave_too_much commands.Verify (given, read, more) = (given, read, more)
-  gave_too_much (commands.Sample number) none = absurd none
-
-  gave_some : (intake : Intake) → IsGivenUp intake left source source' ends.ReadFault →
-      (given : List ℕ) × Takes intake left source source' given × MayFailAfter intake given
-  gave_some (a_text limit) (given, read, within) = (given, read, within)
-  gave_some nothing none = absurd none
-
-  pub gave_no_more : (intake : Intake) → IsGivenUp intake left source source' ends.NoMemory →
-      (given : List ℕ) × Takes intake left source source' given × (length given ≤ most_of intake)
-  gave_no_more (a_text limit) (given, read, within) = (given, read, within)
-  gave_no_more nothing none = absurd none
-
-  -- a text of which a read failed was not given without one
-  not_given : (intake : Intake) (whole : List ℕ) → IsGivenUp intake left source source' ends.ReadFault →
-      Rose (read_faults source) (read_faults source') → IsGiven intake left read_faults source source' whole → ⊥
-  not_given (a_text limit) whole up rose given = given.1 rose
-  not_given nothing whole up rose given = up
+use Rattle.compact_main.proofs.CommandWords.{one_command}
+use Rattle.compact_main.proofs.RunReadings.{whole_text, gave_some, not_given, over_whole}
 
 -- the same answers, where the same commands are asked for
 module _ {S : Type 0} {A B : Command → Type 0} (to : (c : Command) → A c → B c) (left : S → Option (List ℕ)) (source source' : S) where
@@ -205,27 +127,6 @@ module _ {S K : Type 0} (command : Command)
     write_uncounted = λ other. refl;
     completes = λ c whole asked given steady. failed_alone (failures.NotProved unproved) fault c whole asked given;
   }
-
--- more bytes than a command reads are too many
-over_text : (left left' : Option (List ℕ)) (text given : List ℕ) (limit : ℕ) → left ≡ Some text → Consumes left left' given → limit < length given → limit < length text
-over_text left left' text given limit known read more = by_rest left' (subst (λ (l : Option (List ℕ)). Consumes l left' given) known read)
-  where
-    by_rest : (l : Option (List ℕ)) → Consumes (Some text) l given → limit < length text
-    by_rest None r = absurd r
-    by_rest (Some rest) r = let is : length text ≡ length given + length rest = ap length r ∙ length-append given rest in omega (arith, is, more)
-
-module _ {S : Type 0} (left : S → Option (List ℕ)) (read_faults : S → ℕ) (source source' : S) (given whole : List ℕ) where
-  over_limit : (limit : ℕ) → IsGiven (a_text limit) left read_faults source source' whole → Takes (a_text limit) left source source' given →
-      limit < length given → limit < length whole
-  over_limit limit told read more = over_text (left source) (left source') whole given limit told.0 read more
-
-  over_whole : (command : Command) → IsGiven (intake_of command) left read_faults source source' whole →
-      Takes (intake_of command) left source source' given → FirstRefusal command given TooLong → FirstRefusal command whole TooLong
-  over_whole (commands.Draw pitch form) told read more = over_limit (limit_of (commands.Draw pitch form)) told read more
-  over_whole commands.Check told read more = over_limit (limit_of commands.Check) told read more
-  over_whole commands.Measure told read more = over_limit (limit_of commands.Measure) told read more
-  over_whole commands.Verify told read more = over_limit (limit_of commands.Verify) told read more
-  over_whole (commands.Sample number) told read none = absurd none
 
 -- a run that gave its reading up
 module _ {S K : Type 0} (command : Command)

@@ -1,4 +1,5 @@
-use Rattle.compact_main.proofs.RunEnds.{failed_run, long_run, fault_run, written_run, gave_too_much}
+use Rattle.compact_main.proofs.RunEnds.{failed_run, long_run, fault_run, written_run}
+use Rattle.compact_main.proofs.RunReadings.{gave_too_much}
 use Rattle.compact_main.proofs.run.run_command.Goals as goal
 
 pub returns-in-Ok-answer : goal.returns-in-Ok-answer
