@@ -1,23 +1,19 @@
 -- A text that holds a drawing is proved, or is not for one first cause at most: the fault of its
 -- certificate's text, a vertex that does not stand on the grid, or what the certificate does not
 -- show.
-use Rattle.std.proofs.Common.{◌≡◌, ℕ, ◌*◌, ◌<◌, ◌≤◌, ℤ, pos, List, [], ◌∷◌, ◌++◌, length, ◌⊎◌, inl, inr, sym, ap, ◌∙◌, subst, length-append, arith}
-use Rattle.std.specs.Prelude.{◌*ℤ◌, ◌≤ℤ◌, negsuc, unsigned_abs}
-use Rattle.std.proofs.Math.Nat.{mul-le-mul_left}
-use Rattle.std.proofs.lemmas.Int.{ints, unsigned_abs-mul}
-use Rattle.compact_types.specs.declared.limits.TheConstants.{GREATEST_COORDINATE, GREATEST_THOUSANDTHS, MOST_CHOICES}
+use Rattle.std.proofs.Common.{◌≡◌, ℕ, ◌≤◌, ℤ, pos, List, [], ◌∷◌, length, ◌⊎◌, inl, inr, sym, ap, ◌∙◌, subst, arith}
+use Rattle.std.specs.Prelude.{◌≤ℤ◌}
+use Rattle.std.proofs.lemmas.Int.{ints}
+use Rattle.compact_types.specs.declared.limits.TheConstants.{GREATEST_THOUSANDTHS, MOST_CHOICES}
 use Rattle.compact_types.specs.declared.places.Places.{Places}
 use Rattle.compact_types.specs.declared.plan.Plan.{Plan}
-use Rattle.compact_types.specs.Lookups.{place, along}
-use Rattle.compact_types.specs.Magnitudes.{IsWithin, AreWithin}
+use Rattle.compact_types.specs.Magnitudes.{AreWithin}
 use Rattle.cert_text.specs.declared.tree.CertNode.{CertNode}
-use Rattle.cert_text.specs.declared.tree.CertNode.TheVariants.{Split, Bound, Cycle}
 use Rattle.cert_text.specs.Certificates.{IsCertificate, IsPitch}
 use Rattle.cert_text.specs.declared.fault.CertFault.{CertFault}
 use Rattle.cert_text.specs.declared.tree.CertTree.{CertTree}
 use Rattle.cert_text.specs.Faults.{FirstCertFault}
 use Rattle.cert_text.specs.Loads.{IsCertTree}
-use Rattle.cert_text.specs.Texts.{head_line, entry_line, entry_lines, certificate_text}
 use Rattle.cert_text.specs.Trees.{IsShallow}
 use Rattle.cert_check.specs.declared.fault.CheckFault.{CheckFault}
 use Rattle.compact_types.proofs.Laws.{drawing-scaled, within-scaled, one_scaled, scaled_not_off, one_first_off, some_scaled_or_off}
@@ -30,7 +26,6 @@ use Rattle.compact_main.specs.declared.status.Unproved.{Unproved}
 use Rattle.compact_main.specs.declared.status.Unproved.TheVariants as unproved
 use Rattle.compact_main.specs.Drawings.{shape_of, step_of, AreBestPlaces, IsAccepted, IsFirstFlaw, IsOnGridAt, IsFirstOffGrid}
 use Rattle.compact_main.specs.Outputs.{IsInput, IsProved, FirstUnproved}
-use Rattle.compact_types.specs.Scalings.{IsScaled}
 use Rattle.compact_main.specs.inner.Proofs.{CanCheck, CanMeasure}
 use Rattle.compact_main.proofs.Sound.{is_drawing, sound_shape, within_limits}
 

@@ -1,22 +1,19 @@
 -- How a run of one command may end.
-use Rattle.std.proofs.Common.{◌≡◌, ℕ, ◌+◌, ◌<◌, ◌≤◌, List, ◌∷◌, ◌++◌, length, codes, Option, None, Some, inl, inr, refl, sym, ap, ◌∙◌, subst, append-nil, length-append, arith}
-use Rattle.std.specs.Io.KnownBytes.{Consumes, IsAtEnd, Appends}
-use Rattle.io_ends.specs.Counts.{Rose, Counted}
+use Rattle.std.proofs.Common.{◌≡◌, ℕ, ◌≤◌, List, length, Option, inl, inr, refl, sym, ap, subst}
+use Rattle.std.specs.Io.KnownBytes.{Appends}
+use Rattle.io_ends.specs.Counts.{Counted}
 use Rattle.io_ends.specs.Ends.{AppendsFront}
 use Rattle.io_ends.specs.declared.transfer.ReadEnd.TheVariants as ends
 use Rattle.compact_main.specs.declared.command.Command.{Command}
-use Rattle.compact_main.specs.declared.command.Command.TheVariants as commands
 use Rattle.compact_main.specs.declared.status.Failure.{Failure}
 use Rattle.compact_main.specs.declared.status.Failure.TheVariants as failures
 use Rattle.compact_main.specs.declared.status.Why.{Why}
 use Rattle.compact_main.specs.declared.status.Why.TheVariants.{TooLong}
 use Rattle.compact_main.specs.declared.status.Status.{Status}
 use Rattle.compact_main.specs.declared.status.Status.TheVariants.{Done, Refused, ReadFault, WriteFault, NoMemory}
-use Rattle.compact_main.specs.declared.sample.TheConstants.{MOST_SAMPLE}
-use Rattle.compact_main.specs.Commands.{AskForDrawing, Asks, IsNumberTo, IsThe}
-use Rattle.compact_main.specs.Intakes.{Intake, intake_of, most_of, limit_of, Takes, IsReadOut, MayFailAfter, IsGiven}
-use Rattle.compact_main.specs.Intakes.Intake.{a_text, nothing}
-use Rattle.compact_main.specs.Outputs.{Output, IsValid, FirstRefusal, FirstFault}
+use Rattle.compact_main.specs.Commands.{Asks, IsThe}
+use Rattle.compact_main.specs.Intakes.{intake_of, limit_of, Takes, IsReadOut, IsGiven}
+use Rattle.compact_main.specs.Outputs.{Output, IsValid, FirstFault}
 use Rattle.compact_main.specs.Runs.{Answers, IsFailed, Completes, IsRun}
 use Rattle.compact_main.specs.Statuses.{status_of}
 use Rattle.compact_main.specs.inner.Readings.{IsGivenUp}
