@@ -12,6 +12,7 @@ use Rattle.compact_types.specs.Connected.{IsJoined}
 use Rattle.compact_types.specs.Connected.AreJoined.{start}
 use Rattle.compact_types.specs.Drawings.{IsDrawing, IsFromZero}
 use Rattle.compact_types.specs.Lookups.{along, origin, place}
+use Rattle.compact_types.proofs.Laws.{drawing_of_crossing_free}
 use Rattle.bars.specs.Solutions.{IsSound, Solves}
 use Rattle.shape_graphs.specs.Measures.{IsFoundLeast}
 use Rattle.shape_graphs.proofs.Laws.{no_cycle_where_solved}
@@ -31,13 +32,11 @@ no_piece : (shape : Shape) (i : ℕ) → IsDot shape → i < length shape.plan.p
 no_piece shape i dot inside = let none = ap length dot.pieces in omega (arith, inside, none)
 
 pub dot_drawing : (shape : Shape) (places : Places) → IsDot shape → places.xy ≡ origin ∷ [] → IsDrawing shape places
-dot_drawing shape places dot at = record {
-  crossing_free = record {
-    places_fit = ap length at ∙ sym dot.vertices;
-    ways = λ i inside. absurd (no_piece shape i dot inside);
-    meetings = λ i j inside. absurd (no_piece shape i dot inside);
-  };
-}
+dot_drawing shape places dot at = drawing_of_crossing_free shape places (record {
+  places_fit = ap length at ∙ sym dot.vertices;
+  ways = λ i inside. absurd (no_piece shape i dot inside);
+  meetings = λ i j inside. absurd (no_piece shape i dot inside);
+})
 
 one_place : (places : Places) (axis : Axis) (v : ℕ) → places.xy ≡ origin ∷ [] → v < length places.xy → along axis (place places.xy v) ≡ pos 0
 one_place places X zero at inside = rw at refl

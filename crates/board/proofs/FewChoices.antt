@@ -2,6 +2,7 @@
 use Rattle.std.proofs.Common.{◌≡◌, ℕ, zero, suc, ◌+◌, ◌-◌, ◌*◌, ◌<◌, ◌≤◌, List, length, ◌⊎◌, inl, inr, refl, ap, sym, ◌∙◌, arith}
 use Rattle.std.proofs.lemmas.Bool.{cases_eq, cases_order}
 use Rattle.std.proofs.lemmas.Nat.{mul-le}
+use Rattle.compact_types.specs.declared.limits.TheConstants.{MOST_PAIRS}
 use Rattle.compact_types.specs.declared.plan.Shape.{Shape}
 use Rattle.compact_types.specs.declared.search.Choice.{Choice}
 use Rattle.bars.specs.Segments.{segment_count}
@@ -117,7 +118,7 @@ few_choices shape choices sound =
     omega (arith, few, twice)
 
 pub few_choices_of : (shape : Shape) (choices : List Choice) → IsSound shape → AreSound shape choices →
-    length choices ≤ 499500
+    length choices ≤ MOST_PAIRS
 few_choices_of shape choices whole sound =
     let few = few_choices shape choices sound in
     let segments = few_segments shape whole.drawable in

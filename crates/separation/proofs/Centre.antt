@@ -10,6 +10,7 @@ use Rattle.compact_types.specs.declared.places.Point.{Point}
 use Rattle.compact_types.specs.declared.places.Places.{Places}
 use Rattle.compact_types.specs.declared.plan.Shape.{Shape}
 use Rattle.compact_types.specs.declared.search.Choice.{Choice}
+use Rattle.compact_types.proofs.Laws.{drawing_of_crossing_free}
 use Rattle.compact_types.specs.Connected.{IsAlong}
 use Rattle.compact_types.specs.Drawings.{HasWays, IsDrawing, MayShare, OnPiece}
 use Rattle.compact_types.specs.Lookups.{place, piece_at, way_at, along, other_axis, axis_of, IsEnd, HaveSameEnds}
@@ -237,7 +238,7 @@ module _ (shape : Shape) (drawing : HasDrawing shape) (places : Places) (ways : 
 
   -- places in which segments without a common vertex are apart are a drawing
   pub drawn_from_apart : length places.xy ≡ shape.plan.vertices → AreApart shape places → IsDrawing shape places
-  drawn_from_apart fits apart = record { crossing_free = record { places_fit = fits; ways = ways; meetings = meetings } }
+  drawn_from_apart fits apart = drawing_of_crossing_free shape places (record { places_fit = fits; ways = ways; meetings = meetings })
     where
       by_share : (i j s t : ℕ) (z : Point) → IsThere s i z → IsThere t j z → (i ≡ j → ⊥) → ShareVertex shape s t ⊎ (ShareVertex shape s t → ⊥) → MayShare shape.plan places i j z
       by_share i j s t z first second differ (inl share) = share_with_vertex s t i j z first second differ share

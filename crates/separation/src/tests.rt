@@ -1,15 +1,19 @@
 //! What the calls answer on small drawings, worked out by hand.
 
-use crate::{Sides, branch_pair, extension_of, is_complete, is_separated, open_sides};
+use crate::{
+    Sides, branch_pair, extension_of, is_complete, is_separated, open_sides, splitting_pair,
+};
 use bars::bars_of_points;
-use compact_types::{Choice, NoMemory, Places};
+use compact_types::{Choice, Extension, Items, NoMemory, Places};
 use examples::{Example, example_of, rows_of};
 use shape_graphs::{Arc, find_cycle, graphs_of};
 use std::alloc::Global;
 use std::test::Fail;
+use ways::have_ways;
 
 mod examples;
 mod stairs;
+mod ways;
 
 /// A spine with an arm at each end, of which the lower one turns up: its segments are the rows
 /// 0 and 1 of the lower and the upper arm, the column 2 of the spine, and the column 3 of the turn.
@@ -83,18 +87,28 @@ fn leads_with_arc(
     Ok(Some(reach.x.reaches(a, b)))
 }
 
-/// The pair at which a search splits in these places.
+/// The pair at which a search splits the empty list of choices in these places, which solve it: as
+/// `branch_pair` names it and as `splitting_pair` does.
 fn splits_at(
     alloc: Global,
     example: &Example,
     points: &[(i32, i32)],
-) -> Result<Option<(u32, u32)>, Fail> {
+) -> Result<[Option<(u32, u32)>; 2], Fail> {
     let places = Places::at(alloc, points)?;
-    if places.xy.len() != example.bars.shape().plan.vertices as usize {
+    let shape = example.bars.shape();
+    if places.xy.len() != shape.plan.vertices as usize {
         return Err(Fail::new("no place for each vertex"));
     }
+    if !have_ways(shape, &places) {
+        return Err(Fail::new("no solution"));
+    }
     let reach = rows_of(alloc, example)?;
-    Ok(branch_pair(&example.bars, &reach, &places))
+    let choices = Items::new(alloc);
+    let none = Extension { choices };
+    Ok([
+        branch_pair(&example.bars, &reach, &places),
+        splitting_pair(alloc, &example.bars, &none, &places)?,
+    ])
 }
 
 /// Whether the drawing with these points and pieces gives the extension of these choices.
@@ -162,9 +176,9 @@ fn paths_between_columns(rt: HostRuntime) -> Result<(), Fail> {
 fn split_where_the_arm_meets_the_turn(rt: HostRuntime) -> Result<(), Fail> {
     let spine = spine(rt.alloc(), None)?;
     let least = [(0, 0), (0, 1), (1, 0), (1, 1), (1, 1)];
-    assert!(rt; splits_at(rt.alloc(), &spine, &least)? == Some((1, 3)));
+    assert!(rt; splits_at(rt.alloc(), &spine, &least)? == [Some((1, 3)); 2]);
     let drawing = [(0, 0), (0, 1), (2, 0), (2, 1), (1, 1)];
-    assert!(rt; splits_at(rt.alloc(), &spine, &drawing)? == None);
+    assert!(rt; splits_at(rt.alloc(), &spine, &drawing)? == [None; 2]);
     Ok(())
 }
 
@@ -199,7 +213,7 @@ fn first_of_pairs_with_as_many_open_sides(rt: HostRuntime) -> Result<(), Fail> {
         (1, 1),
         (2, 1),
     ];
-    assert!(rt; splits_at(rt.alloc(), &turns, &least)? == Some((1, 3)));
+    assert!(rt; splits_at(rt.alloc(), &turns, &least)? == [Some((1, 3)); 2]);
     Ok(())
 }
 
@@ -245,7 +259,7 @@ fn pair_with_the_fewest_open_sides(rt: HostRuntime) -> Result<(), Fail> {
         (2, 1),
         (0, 2),
     ];
-    assert!(rt; splits_at(rt.alloc(), &frame, &least)? == Some((1, 5)));
+    assert!(rt; splits_at(rt.alloc(), &frame, &least)? == [Some((1, 5)); 2]);
     Ok(())
 }
 

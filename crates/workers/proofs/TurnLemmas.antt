@@ -3,6 +3,7 @@ use Rattle.std.proofs.Common.{◌≡◌, ℕ, zero, suc, ◌+◌, ◌-◌, ◌<�
 use Rattle.std.specs.Prelude.{slice_index_or, slice_set}
 use Rattle.std.proofs.lemmas.Bool.{cases_eq, cases_lt}
 use Rattle.std.proofs.lemmas.List.{length-set, get_or_append_left, get_or-append_right, get_or_past, get_or-set_same, get_or-set_other}
+use Rattle.compact_types.specs.declared.limits.TheConstants.{MOST_PAIRS}
 use Rattle.compact_types.specs.declared.places.Key.{Key}
 use Rattle.compact_types.specs.declared.plan.Shape.{Shape}
 use Rattle.compact_types.specs.declared.search.Branch.{Branch}
@@ -21,7 +22,7 @@ use Rattle.board.specs.Facts.{AreFacts}
 use Rattle.board.specs.Histories.{State, opened, after, branch_count, choices_of, standing_of, standings_opened, open_count_of, is_open, IsWaiting, IsHeldBy, Fits}
 use Rattle.board.specs.Verdicts.{IsBranchPairFor, IsSoundVerdict}
 use Rattle.board.specs.Works.{work_left}
-use Rattle.workers.specs.inner.Turns.{IsBetweenTurns, IsAfterTurn, most_pairs, work_ahead}
+use Rattle.workers.specs.inner.Turns.{IsBetweenTurns, IsAfterTurn, work_ahead}
 use Rattle.board.proofs.Laws.{all_fit-append, state_with, work_stays, work_falls, few_choices_of}
 
 -- a branch that stands otherwise than done is one of the branches
@@ -197,10 +198,9 @@ module _ {P : Type 0} (objective : Objective) (Backs : Shape → List Choice →
 
       few_choices_after : AreFacts objective Backs settled_board →
           (child : ℕ) → child < branch_count (after (board_state claimed_board) settle) →
-          length (choices_of (after (board_state claimed_board) settle) child) ≤ most_pairs
-      unfolding most_pairs
+          length (choices_of (after (board_state claimed_board) settle) child) ≤ MOST_PAIRS
       few_choices_after facts =
-          subst (λ (s : State). (child : ℕ) → child < branch_count s → length (choices_of s child) ≤ 499500) state_settled
+          subst (λ (s : State). (child : ℕ) → child < branch_count s → length (choices_of s child) ≤ MOST_PAIRS) state_settled
           (λ child below. few_choices_of old.shape (choices_of (board_state settled_board) child) facts.shape (facts.choices child below))
 
       fits_settle : AreFacts objective Backs settled_board → Fits (board_state claimed_board) settle
@@ -209,10 +209,10 @@ module _ {P : Type 0} (objective : Objective) (Backs : Shape → List Choice →
       less_work_after : AreFacts objective Backs settled_board → work_ahead (board_state settled_board) < work_ahead (board_state old)
       unfolding work_ahead
       less_work_after facts =
-          let falls = work_falls most_pairs claimed_board.entries who branch.id what (fits_settle facts) (few_choices_after facts) in
-          let stays = work_stays most_pairs old.entries who branch.id latest.waits in
-          let first = ap (λ (s : State). work_left most_pairs s) state_claimed in
-          let second = ap (λ (s : State). work_left most_pairs s) state_settled in
+          let falls = work_falls MOST_PAIRS claimed_board.entries who branch.id what (fits_settle facts) (few_choices_after facts) in
+          let stays = work_stays MOST_PAIRS old.entries who branch.id latest.waits in
+          let first = ap (λ (s : State). work_left MOST_PAIRS s) state_claimed in
+          let second = ap (λ (s : State). work_left MOST_PAIRS s) state_settled in
           omega (arith, falls, stays, first, second)
 
       now_settled : AreFacts objective Backs settled_board → IsAfterTurn shape who old settled_board

@@ -1,9 +1,9 @@
 //! What a search finds on small drawings, worked out by hand.
 
 use crate::search_alone;
+use bars::bars_of_points;
 use board::{Entry, Settled};
-use compact_types::NoMemory;
-use examples::{drawn, places_of};
+use compact_types::{NoMemory, Places};
 use potentials::TotalLength;
 use std::alloc::Global;
 use std::test::Fail;
@@ -25,17 +25,17 @@ fn settled(id: u64, what: Settled) -> Entry {
 /// finds a key of this worth with these places, and makes these entries.
 fn finds(
     alloc: Global,
-    points: &[(u8, u8)],
+    points: &[(i32, i32)],
     ends: &[(u32, u32)],
     worth: i64,
-    best_points: &[(u8, u8)],
+    best_points: &[(i32, i32)],
     entries: &[Entry],
 ) -> Result<bool, NoMemory> {
-    let Some(drawn) = drawn(alloc, points, ends)? else {
+    let Some(drawn) = bars_of_points(alloc, points, ends)? else {
         return Ok(false);
     };
     let best = search_alone(alloc, &TotalLength, &drawn.0, &drawn.1)?;
-    let places = places_of(alloc, best_points)?;
+    let places = Places::at(alloc, best_points)?;
     Ok(
         best.key.worth == worth
             && best.key.places.xy.as_slice() == places.xy.as_slice()

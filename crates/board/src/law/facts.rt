@@ -1,6 +1,7 @@
 //! What follows from the facts of a board.
 
 ghost use Rattle.std.specs.Prelude.{◌≡◌, ◌-◌, ◌*◌, ◌<◌, ◌≤◌, ℕ, List, length, Option};
+ghost use Rattle.compact_types.specs.declared.limits.TheConstants.{MOST_PAIRS};
 ghost use Rattle.compact_types.specs.declared.places.Key.{Key};
 ghost use Rattle.compact_types.specs.declared.plan.Shape.{Shape};
 ghost use Rattle.compact_types.specs.declared.search.Choice.{Choice};
@@ -30,7 +31,7 @@ pub fn choices_are_few()
     ensures pairs { (shape : Shape) (choices : List Choice) → AreSound shape choices →
         2 * length choices ≤ segment_count shape * (segment_count shape - 1) }
     ensures few { (shape : Shape) (choices : List Choice) → IsSound shape → AreSound shape choices →
-        length choices ≤ 499500 }
+        length choices ≤ MOST_PAIRS }
 {}
 
 /// A branch was split at two segments without a common vertex, so that each side of the pair is a

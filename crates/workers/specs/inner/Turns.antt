@@ -1,5 +1,6 @@
 -- What a turn of a search with one worker keeps, and why the turns end.
 use Rattle.std.specs.Prelude.{◌≡◌, ℕ, ◌<◌}
+use Rattle.compact_types.specs.declared.limits.TheConstants.{MOST_PAIRS}
 use Rattle.compact_types.specs.declared.plan.Shape.{Shape}
 use Rattle.board.specs.Boards.{BoardView, board_state, IsCaller}
 use Rattle.board.specs.Histories.{State, IsHeldBy, open_count_of}
@@ -11,13 +12,9 @@ pub record IsBetweenTurns {P : Type 0} (shape : Shape) (who : ℕ) (board : Boar
   pub caller : IsCaller board.given who
   pub none_held : (id holder : ℕ) → IsHeldBy (board_state board) id holder → ⊥
 
--- no branch has more choices: a shape has at most 1,000 segments
-unfoldable pub most_pairs : ℕ
-most_pairs = 499500
-
--- the work that open branches may still make
+-- the work that open branches may still make: no branch has more choices than a shape has pairs
 unfoldable pub work_ahead : State → ℕ
-work_ahead state = work_left most_pairs state
+work_ahead state = work_left MOST_PAIRS state
 
 -- a turn keeps what holds between turns, and leaves less work
 pub record IsAfterTurn {P : Type 0}
