@@ -84,11 +84,7 @@ fn write_certified(
 }
 
 /// The text with the certificate after it.
-fn with_certificate(
-    mut text: Items<u8>,
-    tree: &CertTree,
-    pitch: u32,
-) -> Result<Items<u8>, NoMemory>
+fn with_certificate(mut text: Items<u8>, tree: &CertTree, pitch: u32) -> Result<Items<u8>, NoMemory>
     requires tree { IsCertTree tree.now.nodes }
     requires pitch { IsPitch pitch }
     ensures { IfOk result (IsCertified pitch text tree.now.nodes) }

@@ -86,4 +86,3 @@ fn numbers_of(found: Option<Meeting>) -> Option<(u32, u32)>
         Some(pair) => Some((pair.s, pair.t)),
     }
 }
-
