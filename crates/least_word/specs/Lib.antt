@@ -1,0 +1,4 @@
+pub mod Views
+pub mod Words
+pub mod Seats
+pub mod inner
