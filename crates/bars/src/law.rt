@@ -14,8 +14,8 @@ ghost use Rattle.bars.specs.Segments.{first_vertex, last_vertex, node_count, low
 ghost use Rattle.bars.specs.Ends.{StandsFirst, StandsLast, IsLowNode, IsHighNode};
 ghost use Rattle.bars.specs.Solutions.{HasDrawing};
 
-/// Vertices are in one row, or in one column, exactly if they have one number. The numbers go
-/// up with the least vertices of the lines, and no number is left out. There are at most as many lines
+/// Vertices are in one row, or in one column, exactly if they have one number. The numbers go up
+/// with the least vertices of the lines, and no number is left out. There are at most as many lines
 /// as vertices.
 pub fn lines_are_numbered()
     ensures by_least { (axis : Axis) (shape : Shape) (v w : ℕ) →

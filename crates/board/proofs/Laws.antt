@@ -12,6 +12,8 @@ pub use Rattle.board.proofs.SplitLaws.{splits_have_children, splits_name_a_pair,
 pub use Rattle.board.proofs.ParentLaws.{branches_differ, opened_from_split, some_parent}
 -- the pair that settles a branch whatever the incumbent is
 pub use Rattle.board.proofs.PairLaws.{branch_pairs_settle}
+-- the shape of one vertex, for tests
+pub use Rattle.board.proofs.DotLemmas.{dot_sound, dot_least}
 -- how much is left to do
 pub use Rattle.board.proofs.WorkLaws.{work_stays, work_falls}
 -- the facts of a board

@@ -87,9 +87,9 @@ pub fn proved_drawings_are_best()
         IsProved text drawing places → AreBestPlaces drawing places }
 {}
 
-/// A law: what is written with a certificate shows by itself that it is the best: the certificate is
-/// accepted for the places, and no entry of it lies under too many splits. That is all that it takes
-/// of a drawing that a text holds, and of the sample of a number.
+/// A law: what is written with a certificate shows by itself that it is the best: the certificate
+/// is accepted for the places, and no entry of it lies under too many splits. That is all that it
+/// takes of a drawing that a text holds, and of the sample of a number.
 pub fn certificates_show_the_best()
     ensures drawn { (text : List ℕ) (drawing : Drawing) (places : Places) (nodes : List CertNode) →
         HoldsDrawing text drawing → IsAccepted drawing places nodes →

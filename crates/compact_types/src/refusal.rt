@@ -22,8 +22,8 @@ impl<T: Drop> From<AllocFailed<T>> for NoMemory {
     }
 }
 
-/// Why a call did not give a value: a fault of its input, or a want of memory, which says nothing of
-/// the input.
+/// Why a call did not give a value: a fault of its input, or a want of memory, which says nothing
+/// of the input.
 #[derive(Clone, Copy, Debug, PartialEq, Eq)]
 pub enum Refusal<F> {
     Fault(F),

@@ -1,6 +1,6 @@
 //! A best flow, found from one that is not best.
 
-ghost use Rattle.std.specs.Prelude.{◌≡◌, IfOk, MatchOption};
+ghost use Rattle.std.specs.Prelude.{IfOk, MatchOption};
 ghost use Rattle.shape_graphs.specs.Flows.{Balances};
 ghost use Rattle.diff_flow.specs.Amounts.{IsFlowOn};
 ghost use Rattle.diff_flow.specs.Improving.{IsBestByNumbers};

@@ -9,10 +9,10 @@ ghost use Rattle.least_word.specs.Words.{IsHalted, IsStep, SomeHalts, Words};
 ghost use Rattle.least_word.specs.declared.words.TheConstants.{GREATEST_WORTH};
 ghost use Rattle.least_word.specs.declared.view.View.{View as AnyView};
 
-/// No step raises a seat's floor or takes a mark from it; of a load of the worth, that is so because
-/// what it finds is at most the floor. After an offer the floor is at most what was offered, a seat
-/// that is split off keeps what the first one had, and a seat that takes over another keeps what
-/// either had.
+/// No step raises a seat's floor or takes a mark from it; of a load of the worth, that is so
+/// because what it finds is at most the floor. After an offer the floor is at most what was
+/// offered, a seat that is split off keeps what the first one had, and a seat that takes over
+/// another keeps what either had.
 pub fn knowledge_is_kept()
     ensures load { (view : AnyView) (worth : ℕ) → worth ≤ view.floor →
         KeepsKnowledge view (after_load view worth) }
@@ -28,9 +28,9 @@ pub fn knowledge_is_kept()
 {}
 
 /// What every step finds: some drawing of the shape has the worth, which is at most the greatest
-/// worth and at most the seat's floor, before the step and after it. A seat that has heard of a halt
-/// is right; a halt word that is set was set by a seat that has the halting mark; and a step that
-/// sets it gives its seat that mark.
+/// worth and at most the seat's floor, before the step and after it. A seat that has heard of a
+/// halt is right; a halt word that is set was set by a seat that has the halting mark; and a step
+/// that sets it gives its seat that mark.
 pub fn what_steps_find()
     ensures attained { (objective : Objective) (shape : AnyShape) (before after : Words)
         (old new : AnyView) → IsStep objective shape before after old new →

@@ -35,7 +35,8 @@ impl<P: Backing> Model for LeastWord<P> {
     ghost invariant = { λ word. word.table.shared.table_id.words ≡ 2 };
 }
 
-/// The right of one thread to read and write a least word, and what it knows of it. It has no bytes.
+/// The right of one thread to read and write a least word, and what it knows of it. It has no
+/// bytes.
 #[derive(Drop)]
 pub struct WordSeat {
     seat: Seat<(), Member>,

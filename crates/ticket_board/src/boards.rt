@@ -23,8 +23,8 @@ use std::alloc::Global;
 use std::marker::Model;
 use std::sync::Wait;
 
-/// A board that callers share, each with a pass of its own. Every call on a pass that may wait takes
-/// a turn, in which the caller alone has the board.
+/// A board that callers share, each with a pass of its own. Every call on a pass that may wait
+/// takes a turn, in which the caller alone has the board.
 #[derive(Drop)]
 pub struct TicketBoard<P: Backing> {
     pub(crate) table: Table<Option<Board<P>>, View, Founding<P>, InTurns, Global>,
@@ -108,8 +108,8 @@ impl<P: Backing> TicketBoard<P> {
         count
     }
 
-    /// Gives the pass what the other pass, which is spent, had seen. It takes no memory and does not
-    /// wait.
+    /// Gives the pass what the other pass, which is spent, had seen. It takes no memory and does
+    /// not wait.
     pub fn meet(&self, pass: &mut Pass, other: Pass)
         requires home { pass.old.home ≡ self.now }
         requires other { other.home ≡ self.now }

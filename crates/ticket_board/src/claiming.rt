@@ -16,9 +16,9 @@ use std::alloc::Global;
 use std::sync::Wait;
 
 /// Claims the branch as `TicketBoard::claim` does, and if it is the caller's, copies in the same
-/// turn the proof of the verdict on the branch from which it was opened: a solver may begin with it.
-/// `None` for a branch that is not the caller's, and for branch 0, which was opened from none. A copy
-/// for which there is no memory does not undo the claim.
+/// turn the proof of the verdict on the branch from which it was opened: a solver may begin with
+/// it. `None` for a branch that is not the caller's, and for branch 0, which was opened from none.
+/// A copy for which there is no memory does not undo the claim.
 pub fn claim_with_proof<M: Measure, R: Wait>(
     board: &TicketBoard<M::Proof>,
     rt: &R,
@@ -42,8 +42,8 @@ pub fn claim_with_proof<M: Measure, R: Wait>(
     (claim, proof)
 }
 
-/// Claims the branch on the board that the caller has in its turn. To the history it adds nothing but
-/// an entry of the caller.
+/// Claims the branch on the board that the caller has in its turn. To the history it adds nothing
+/// but an entry of the caller.
 pub(crate) fn claim_on<P: Backing>(board: &mut Board<P>, who: u32, branch: &Branch) -> Claim
     requires { IsCaller board.old.given who }
     ensures answer { IsClaimAnswer board.old who branch.now result board.new }

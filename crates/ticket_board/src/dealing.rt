@@ -1,6 +1,6 @@
 //! How a board comes on the table, and its callers get their passes.
 
-ghost use Rattle.std.specs.Prelude.{◌≡◌, ◌+◌, ◌≤◌, [], IfOk};
+ghost use Rattle.std.specs.Prelude.{◌≡◌, ◌+◌, ◌≤◌, IfOk};
 ghost use Rattle.ticket_board.specs.Passes.{AreNewcomers};
 ghost use Rattle.ticket_board.specs.inner.Dealing.{IsDealer, IsFounded};
 ghost use Rattle.ticket_board.specs.inner.Rules.{IsSized};

@@ -2,8 +2,8 @@
 //!
 //! The layer above relies on this. Each call on a pass is answered as the board answers it at one
 //! point of one legal history, which begins with all that the pass had seen and has the pass's own
-//! entries, each once. Which entries are its own a pass knows, so that it settles what it holds, and
-//! is refused memory alone.
+//! entries, each once. Which entries are its own a pass knows, so that it settles what it holds,
+//! and is refused memory alone.
 #![tactic(auto)]
 
 mod boards;

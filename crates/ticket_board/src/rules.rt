@@ -1,5 +1,6 @@
-//! The table that the callers share. Word 0 is the ticket that is drawn next and word 1 the one that
-//! is served, both modulo 2^64. The one slot holds the board, and nothing while it is out in a turn.
+//! The table that the callers share. Word 0 is the ticket that is drawn next and word 1 the one
+//! that is served, both modulo 2^64. The one slot holds the board, and nothing while it is out in a
+//! turn.
 
 use crate::views::View;
 use atomic_table::{Seat, Shared, TableRule};

@@ -1,4 +1,5 @@
-//! Words that do not ask for a command, reads and writes that fail, and notes that cannot be written.
+//! Words that do not ask for a command, reads and writes that fail, and notes that cannot be
+//! written.
 
 use crate::run::run_alone;
 use crate::status::{Status, Why};
