@@ -5,13 +5,15 @@ ghost use Rattle.shape_graphs.specs.Backings.{DoBack};
 ghost use Rattle.shape_graphs.specs.Measures.{IsBacked};
 
 use crate::{FlowKey, TotalLength, flow_key};
-use compact_types::{Axis, Choice, Flows, NoMemory};
-use examples::{Example, example_of, places_of};
+use compact_types::{Axis, Choice, Flows, NoMemory, Places};
+use examples::{Example, example_of};
 use shape_graphs::{Measure, Verdict};
 use std::alloc::Global;
 use std::test::Fail;
 
 mod examples;
+mod flows;
+mod starts;
 
 /// A spine with an arm at each end, of which the lower one turns up: its segments are the rows
 /// 0 and 1 of the lower and the upper arm, the column 2 of the spine, and the column 3 of the turn.
@@ -24,9 +26,15 @@ fn spine(alloc: Global, choice: Option<Choice>) -> Result<Example, Fail> {
     )
 }
 
+/// The places of its least key with the upper arm west of the turn, of length 5.
+const WEST: [(i32, i32); 5] = [(0, 0), (0, 1), (2, 0), (2, 1), (1, 1)];
+
+/// The places of its least key with the upper arm above the turn, of length 5.
+const ABOVE: [(i32, i32); 5] = [(0, 0), (0, 2), (1, 0), (1, 1), (1, 2)];
+
 /// The choice that keeps the upper arm and the turn apart by this side.
-fn arm_and_turn(side: u8) -> Option<Choice> {
-    Some(Choice { s: 1, t: 3, side })
+fn arm_and_turn(side: u8) -> Choice {
+    Choice { s: 1, t: 3, side }
 }
 
 /// The verdict of a search that stops above this length.
@@ -59,23 +67,22 @@ fn solved_by<M: Measure>(
 }
 
 /// The bound that passes the stop; `None` where the verdict is another.
-fn bound_above(alloc: Global, example: &Example, stop: i64) -> Result<Option<i64>, Fail> {
-    Ok(match solved(alloc, example, stop)? {
-        Verdict::Above { bound, .. } => Some(bound),
+fn bound_above(verdict: &Verdict<Flows>) -> Option<i64> {
+    match verdict {
+        Verdict::Above { bound, .. } => Some(*bound),
         _ => None,
-    })
+    }
 }
 
-/// Whether the least key is worth so much and has these places.
+/// Whether the verdict is a least key that is worth so much and has these places.
 fn is_least(
     alloc: Global,
-    example: &Example,
-    stop: i64,
+    verdict: &Verdict<Flows>,
     worth: i64,
-    points: &[(u8, u8)],
-) -> Result<bool, Fail> {
-    let places = places_of(alloc, points)?;
-    Ok(match solved(alloc, example, stop)? {
+    points: &[(i32, i32)],
+) -> Result<bool, NoMemory> {
+    let places = Places::at(alloc, points)?;
+    Ok(match verdict {
         Verdict::Least { key, .. } => {
             key.worth == worth && key.places.xy.as_slice() == places.xy.as_slice()
         }
@@ -96,51 +103,57 @@ fn key_at(alloc: Global, example: &Example, stop: i64) -> Result<Option<FlowKey>
 }
 
 /// Whether the verdict is a cycle of these arcs in the graph of the axis.
-fn is_cycle(alloc: Global, example: &Example, axis: Axis, arcs: &[u32]) -> Result<bool, Fail> {
-    Ok(match solved(alloc, example, 45)? {
-        Verdict::Cyclic { axis: found, cycle } => found == axis && cycle.arcs.as_slice() == arcs,
+fn is_cycle(verdict: &Verdict<Flows>, axis: Axis, arcs: &[u32]) -> bool {
+    match verdict {
+        Verdict::Cyclic { axis: found, cycle } => *found == axis && cycle.arcs.as_slice() == arcs,
         _ => false,
-    })
+    }
 }
 
 #[test]
 fn least_without_choices(rt: HostRuntime) -> Result<(), Fail> {
     let spine = spine(rt.alloc(), None)?;
     let points = [(0, 0), (0, 1), (1, 0), (1, 1), (1, 1)];
-    assert!(rt; is_least(rt.alloc(), &spine, 45, 4, &points)?);
-    assert!(rt; is_least(rt.alloc(), &spine, 4, 4, &points)?);
-    assert!(rt; bound_above(rt.alloc(), &spine, 3)? == Some(4));
+    assert!(rt; is_least(rt.alloc(), &solved(rt.alloc(), &spine, 45)?, 4, &points)?);
+    assert!(rt; is_least(rt.alloc(), &solved(rt.alloc(), &spine, 4)?, 4, &points)?);
+    assert!(rt; bound_above(&solved(rt.alloc(), &spine, 3)?) == Some(4));
     Ok(())
 }
 
 #[test]
-fn least_with_the_arm_west_of_the_turn(rt: HostRuntime) -> Result<(), Fail> {
-    let spine = spine(rt.alloc(), arm_and_turn(0))?;
-    let points = [(0, 0), (0, 1), (2, 0), (2, 1), (1, 1)];
-    assert!(rt; bound_above(rt.alloc(), &spine, 4)? == Some(5));
-    assert!(rt; is_least(rt.alloc(), &spine, 5, 5, &points)?);
+fn least_with_a_choice(rt: HostRuntime) -> Result<(), Fail> {
+    for (side, points) in [(0, WEST), (3, ABOVE)] {
+        let spine = spine(rt.alloc(), Some(arm_and_turn(side)))?;
+        assert!(rt;
+            bound_above(&solved(rt.alloc(), &spine, 4)?) == Some(5),
+            "at side {side}"
+        );
+        let found = solved(rt.alloc(), &spine, 5)?;
+        assert!(rt; is_least(rt.alloc(), &found, 5, &points)?, "at side {side}");
+    }
     Ok(())
 }
 
 #[test]
 fn the_arm_is_not_east_of_the_turn(rt: HostRuntime) -> Result<(), Fail> {
-    let spine = spine(rt.alloc(), arm_and_turn(1))?;
-    assert!(rt; is_cycle(rt.alloc(), &spine, Axis::X, &[0, 2])?);
+    let spine = spine(rt.alloc(), Some(arm_and_turn(1)))?;
+    assert!(rt; is_cycle(&solved(rt.alloc(), &spine, 45)?, Axis::X, &[0, 2]));
     Ok(())
 }
 
 #[test]
 fn the_arm_is_not_below_the_lower_arm(rt: HostRuntime) -> Result<(), Fail> {
-    let spine = spine(rt.alloc(), arm_and_turn(2))?;
-    assert!(rt; is_cycle(rt.alloc(), &spine, Axis::Y, &[0, 2])?);
+    let spine = spine(rt.alloc(), Some(arm_and_turn(2)))?;
+    assert!(rt; is_cycle(&solved(rt.alloc(), &spine, 45)?, Axis::Y, &[0, 2]));
     Ok(())
 }
 
 #[test]
 fn flows_of_the_least_key(rt: HostRuntime) -> Result<(), Fail> {
-    let spine = spine(rt.alloc(), None)?;
+    let spine = spine(rt.alloc(), Some(arm_and_turn(0)))?;
     let key = key_at(rt.alloc(), &spine, 45)?.ok_or("no least key")?;
-    assert!(rt; key.bound == 4);
-    assert!(rt; key.least.is_some());
+    assert!(rt; key.bound == 5);
+    let least = key.least.ok_or("no places")?;
+    assert!(rt; least.xy.as_slice() == Places::at(rt.alloc(), &WEST)?.xy.as_slice());
     Ok(())
 }
