@@ -13,12 +13,11 @@ use Rattle.drawing_read.specs.declared.limits.TheConstants.{MOST_PIECES_READ}
 use Rattle.drawing_read.specs.declared.numerals.Number.{Number}
 use Rattle.drawing_read.specs.declared.numerals.Numbers.{Numbers}
 use Rattle.drawing_read.specs.declared.refused.RefusedNumber.{RefusedNumber}
-use Rattle.drawing_read.specs.declared.routes.Route.{Route}
 use Rattle.drawing_read.specs.declared.written.Node.{Node}
 use Rattle.drawing_read.specs.declared.written.Edge.{Edge}
 use Rattle.drawing_read.specs.declared.written.Graph.{Graph}
 use Rattle.drawing_read.specs.Ids.{id_of, ids_of, number_of_id, first_repeated}
-use Rattle.drawing_read.specs.Routes.{point_of, node_points, route_of, routes_by}
+use Rattle.drawing_read.specs.Routes.{Route, point_of, node_points, route_of, routes_by}
 use Rattle.drawing_read.specs.Spans.{vertex_points, spans_of, pieces_of, points_in, spans_in, pieces_in}
 use Rattle.drawing_read.specs.Faults.{is_absent, is_unfit, both_numbers, numbers_of, refused_in, earlier, lacks_end, has_unknown_end, bad_point_from, graph_fault}
 use Rattle.drawing_read.proofs.AlikeLists.{bare_number, bare_point, bare_node, bare_edge, bare_graph, position-map, filter_map-map}

@@ -5,6 +5,7 @@ pub mod Steps
 pub mod RefusedLemmas
 pub mod IdLemmas
 pub mod SmallLemmas
+pub mod LayoutLemmas
 pub mod RouteLemmas
 pub mod Faultless
 pub mod EndLemmas

@@ -24,14 +24,13 @@ use Rattle.drawing_read.specs.declared.numerals.Numbers.{Numbers}
 use Rattle.drawing_read.specs.declared.written.Node.{Node}
 use Rattle.drawing_read.specs.declared.written.Edge.{Edge}
 use Rattle.drawing_read.specs.declared.written.Graph.{Graph}
-use Rattle.drawing_read.specs.declared.routes.Route.{Route}
 use Rattle.drawing_read.specs.declared.reading.Reading.{Reading}
 use Rattle.drawing_read.specs.Lookups.{has_key, list_in, list_under, first_under, first_list}
 use Rattle.gml_text.specs.Thousandths.{times_ten, within_range, thousandths_of}
 use Rattle.drawing_read.specs.Numerals.{numeral_in, number_of, number_under, numbers_in}
 use Rattle.drawing_read.specs.Written.{node_of, node_in, point_in, line_of, edge_of, edge_in, graph_of}
 use Rattle.drawing_read.specs.Ids.{ids_of, number_of_id}
-use Rattle.drawing_read.specs.Routes.{value_of, point_of, node_points, route_of}
+use Rattle.drawing_read.specs.Routes.{Route, value_of, point_of, node_points, route_of}
 use Rattle.drawing_read.specs.Spans.{begins_at, ends_at, after_first_at, before_last_at, bends_of, points_in}
 use Rattle.drawing_read.specs.Faults.{graphs_of}
 use Rattle.drawing_read.specs.Readings.{graph_place, IsGraphReading, IfOne, IsReading, IsWithinLimits}

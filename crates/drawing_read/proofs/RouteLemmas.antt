@@ -9,13 +9,12 @@ use Rattle.compact_types.specs.Lookups.{place}
 use Rattle.drawing_read.specs.declared.written.Node.{Node}
 use Rattle.drawing_read.specs.declared.written.Edge.{Edge}
 use Rattle.drawing_read.specs.declared.written.Graph.{Graph}
-use Rattle.drawing_read.specs.declared.routes.Route.{Route}
 use Rattle.drawing_read.specs.declared.spans.Span.{Span}
 use Rattle.drawing_read.specs.inner.Legible.{most_pairs}
 use Rattle.drawing_read.specs.inner.Passes.{point_count, IsSmall}
 use Rattle.drawing_read.specs.Spans.{begins_at, ends_at, after_first_at, before_last_at, bends_of, spans_from, chain, pieces_of, points_in, spans_in, pieces_in}
 use Rattle.drawing_read.specs.Ids.{number_of_id, ids_of}
-use Rattle.drawing_read.specs.Routes.{point_of, route_of, routes_by, node_points}
+use Rattle.drawing_read.specs.Routes.{Route, point_of, route_of, routes_by, node_points}
 
 after_below : (here : Point) (points : List Point) → length (after_first_at here points) ≤ length points
 after_below here points = by (begins_at here points)

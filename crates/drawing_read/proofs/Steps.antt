@@ -1,11 +1,10 @@
 -- One more step of a loop over a list.
 use Rattle.compact_types.specs.declared.plan.Piece.{Piece}
 use Rattle.drawing_read.specs.Spans.{chain}
-use Rattle.std.proofs.Common.{◌≡◌, ℕ, suc, ◌+◌, ◌-◌, ◌<◌, arith, List, [], ◌∷◌, ◌++◌, length, take, get_or, Option, None, Some, sym, ap, ◌∙◌, append-nil, append_assoc, map}
-use Rattle.std.proofs.lemmas.List.{take_more, map_push, get_or_default}
+use Rattle.std.proofs.Common.{◌≡◌, ℕ, suc, ◌+◌, ◌-◌, ◌<◌, arith, List, [], ◌∷◌, ◌++◌, length, take, get_or, Option, None, Some, sym, ap, ◌∙◌, append-nil, append_assoc}
+use Rattle.std.proofs.lemmas.List.{take_more}
 use Rattle.std.proofs.lemmas.List.Elements.{filter_map-append}
-use Rattle.std.proofs.lemmas.Grind.{flat_map-append}
-use Rattle.std.specs.List.{filter_map, flat_map, cons_option, range_with_len}
+use Rattle.std.specs.List.{filter_map, cons_option, range_with_len}
 
 module _ {X Y : Type 0} (h : X → Option Y) (xs : List X) (i : ℕ) (x : X) (within : i < length xs) (here : x ≡ get_or xs i x) where
   filter_map_more : (o : Option Y) → h x ≡ o → filter_map h (take (i + 1) xs) ≡ filter_map h (take i xs) ++ cons_option o []
@@ -20,29 +19,6 @@ module _ {X Y : Type 0} (h : X → Option Y) (xs : List X) (i : ℕ) (x : X) (wi
   -- the next item is left out
   pub left_more : h x ≡ None → filter_map h (take (i + 1) xs) ≡ filter_map h (take i xs)
   left_more is = filter_map_more None is ∙ append-nil (filter_map h (take i xs))
-
--- one more item is mapped
-pub mapped_more : {X Y : Type 0} (f : X → Y) (xs : List X) (i : ℕ) (x : X) → i < length xs → x ≡ get_or xs i x → map f (take (i + 1) xs) ≡ map f (take i xs) ++ f x ∷ []
-mapped_more f xs i x within here =
-    ap (map f) (take_more xs i x within) ∙ map_push f (take i xs) (get_or xs i x) ∙ ap (λ y. map f (take i xs) ++ f y ∷ []) (sym here)
-
--- one more list is joined
-pub joined_more : {X Y : Type 0} (f : X → List Y) (xs : List X) (i : ℕ) (x : X) → i < length xs → x ≡ get_or xs i x →
-    flat_map f (take (i + 1) xs) ≡ flat_map f (take i xs) ++ f x
-joined_more f xs i x within here =
-    ap (flat_map f) (take_more xs i x within) ∙ flat_map-append f (take i xs) (get_or xs i x ∷ [])
-    ∙ ap (λ ys. flat_map f (take i xs) ++ ys) (append-nil (f (get_or xs i x)) ∙ ap f (sym here))
-
--- the same, where they stand behind some that were there before
-pub joined_behind : {X Y : Type 0} (f : X → List Y) (xs : List X) (i : ℕ) (x : X) (front : List Y) → i < length xs → x ≡ get_or xs i x →
-    front ++ flat_map f (take (i + 1) xs) ≡ (front ++ flat_map f (take i xs)) ++ f x
-joined_behind f xs i x front within here =
-    ap (λ ys. front ++ ys) (joined_more f xs i x within here) ∙ sym (append_assoc front (flat_map f (take i xs)) (f x))
-
--- the same, of an item that is read by its place
-pub joined_at : {X Y : Type 0} (f : X → List Y) (xs : List X) (i : ℕ) (d : X) → i < length xs →
-    flat_map f (take (i + 1) xs) ≡ flat_map f (take i xs) ++ f (get_or xs i d)
-joined_at f xs i d within = joined_more f xs i (get_or xs i d) within (get_or_default xs i d (get_or xs i d) within)
 
 -- one more bend of a chain
 pub chain_more : (old goal : List Piece) (from bend end to : ℕ) → bend < end →

@@ -7,8 +7,13 @@ use Rattle.drawing_read.specs.declared.numerals.Numbers.{Numbers}
 use Rattle.drawing_read.specs.declared.written.Node.{Node}
 use Rattle.drawing_read.specs.declared.written.Edge.{Edge}
 use Rattle.drawing_read.specs.declared.written.Graph.{Graph}
-use Rattle.drawing_read.specs.declared.routes.Route.{Route}
 use Rattle.drawing_read.specs.Ids.{node_with}
+
+-- an edge with its ends as node numbers and its points as places
+pub record Route : Type 0 where
+  pub source : ℕ
+  pub target : ℕ
+  pub points : List Point
 
 -- a number in thousandths that is not refused
 abbrev pub value_of : Result ℤ NumberFault → ℤ
@@ -24,7 +29,7 @@ point_of (Some numbers) = record { x = value_of numbers.x.value; y = value_of nu
 abbrev pub node_points : List Node → List Point
 node_points nodes = map (λ node. point_of node.place) nodes
 
--- an edge with its ends as node numbers and its points as places
+-- an edge as a route, where `look` tells which node has an id
 abbrev pub route_of : (ℤ → Option ℕ) → Edge → Route
 route_of look edge = record {
   source = unwrap_or (node_with look edge.source) 0;
@@ -32,6 +37,6 @@ route_of look edge = record {
   points = map point_of edge.points;
 }
 
--- the edges of a graph as routes, where `look` tells which node has an id
+-- the edges of a graph as routes
 abbrev pub routes_by : (ℤ → Option ℕ) → Graph → List Route
 routes_by look graph = map (route_of look) graph.edges

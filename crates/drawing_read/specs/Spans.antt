@@ -9,10 +9,9 @@ use Rattle.compact_types.specs.declared.places.Point.{Point}
 use Rattle.compact_types.specs.declared.plan.Piece.{Piece}
 use Rattle.compact_types.specs.Lookups.{place}
 use Rattle.drawing_read.specs.declared.written.Graph.{Graph}
-use Rattle.drawing_read.specs.declared.routes.Route.{Route}
 use Rattle.drawing_read.specs.declared.spans.Span.{Span}
 use Rattle.drawing_read.specs.Ids.{ids_of, number_of_id}
-use Rattle.drawing_read.specs.Routes.{node_points, routes_by}
+use Rattle.drawing_read.specs.Routes.{Route, node_points, routes_by}
 
 -- the points are one
 abbrev pub same_point : Point → Point → Bool
