@@ -10,7 +10,7 @@ use Rattle.board.specs.Boards.{BoardView, board_state, IsLatestWaiting, NoneWait
 use Rattle.board.specs.Facts.{AreFacts}
 use Rattle.workers.specs.Searches.{HasEnded}
 use Rattle.workers.specs.inner.Turns.{AreAllSettled, IsBetweenTurns}
-use Rattle.board.proofs.Laws.{none_open_is_best}
+use Rattle.board.proofs.Laws.{none_open_is_best, told}
 use Rattle.workers.proofs.TurnLemmas.{none_open}
 
 -- between two turns every branch is settled where none waits
@@ -32,6 +32,7 @@ module _ {P : Type 0} (objective : Objective) (Backs : Shape → List Choice →
     none_open = settled.none_open;
     incumbent = sym is;
     facts = facts;
+    told = λ id below. told board.entries id facts.legal settled.none_open below;
   }
 
   -- and then the incumbent is best

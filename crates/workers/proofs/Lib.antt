@@ -1,4 +1,7 @@
 mod BranchLemmas
+mod CrewLemmas
 mod EndLemmas
 mod FirstLemmas
+mod HandLemmas
+mod SharingLemmas
 mod TurnLemmas

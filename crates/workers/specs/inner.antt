@@ -1,2 +1,4 @@
 pub mod First
+pub mod Lives
+pub mod Sharing
 pub mod Turns

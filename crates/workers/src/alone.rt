@@ -52,7 +52,7 @@ pub fn search_alone<M: Measure>(
 
 /// The answer of a search that has settled every branch: the incumbent is the best key.
 #[tactic(auto, using(crate::proofs::EndLemmas::ended))]
-fn answer<P: Backing>(bars: &Bars, board: Board<P>) -> Result<Best<P>, NoMemory>
+pub(crate) fn answer<P: Backing>(bars: &Bars, board: Board<P>) -> Result<Best<P>, NoMemory>
     requires { AreAllSettled bars.now board }
     ensures best { IfOk result (λ best. IsBest P.objective bars.now best.key.places) }
     ensures worth { IfOk result (λ best.

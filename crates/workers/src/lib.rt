@@ -6,9 +6,21 @@
 
 mod alone;
 mod branch;
+mod crews;
+mod desks;
 mod first;
+mod gates;
+mod hands;
+mod life;
+mod several;
+mod sharing;
+mod steps;
 #[cfg(test)]
 mod tests;
 mod turns;
 
 pub use alone::{Best, search_alone};
+pub use gates::{Gate, NoGate};
+pub use hands::{Hand, Other};
+pub use life::work;
+pub use several::{MOST_WORKERS, search};

@@ -1,0 +1,114 @@
+//! What a worker does with one branch, and where it gets the next one from.
+
+ghost use Rattle.std.specs.Prelude.{◌≡◌, IsTrue, OnErr, OnOk};
+ghost use Rattle.board.specs.Histories.{open_count_of, state_of};
+ghost use Rattle.workers.specs.Hands.{AreFor, IsHandAt};
+ghost use Rattle.workers.specs.inner.Lives.{IsGoing, IsStopped};
+
+use crate::branch::solve_branch;
+use crate::gates::Gate;
+use crate::hands::Hand;
+use crate::sharing::{offer, share};
+use bars::Bars;
+use board::Claim;
+use compact_types::{Branch, NoMemory};
+use least_word::LeastWord;
+use shape_graphs::{Backing, Measure};
+use std::alloc::Global;
+use std::sync::Wait;
+use steal_lanes::Stolen;
+use ticket_board::{TicketBoard, claim_with_proof};
+
+/// The branch to go on with: the one that was kept, else the first of the hand's own lane, else the
+/// first that one try at each other lane gives.
+pub(crate) fn next_branch(hand: &mut Hand, kept: Option<Branch>) -> Option<Branch>
+    ensures { IsGoing hand.old hand.new }
+{
+    match kept {
+        Some(branch) => Some(branch),
+        None => match hand.lane.take() {
+            Some(branch) => Some(branch),
+            None => steal(hand),
+        },
+    }
+}
+
+/// The first branch that one try at each other lane gives.
+fn steal(hand: &mut Hand) -> Option<Branch>
+    ensures { IsGoing hand.old hand.new }
+{
+    for place in 0..hand.others.len() {
+        if let Some(branch) = try_lane(hand, place) {
+            return Some(branch);
+        }
+    }
+    None
+}
+
+/// The branch that one try at the other lane of this place gives.
+fn try_lane(hand: &mut Hand, place: usize) -> Option<Branch>
+    ensures { IsGoing hand.old hand.new }
+{
+    let other = hand.others.get_mut(place)?;
+    match other.thief.steal(&mut other.pass) {
+        Stolen::Got(branch) => Some(branch),
+        Stolen::Empty | Stolen::Again => None,
+    }
+}
+
+/// Claims the branch and, if it is this worker's, solves and settles it. The child to go on with,
+/// if it was split. Of a branch that is another's nothing is left to do here.
+pub(crate) fn advance<M: Measure, G: Gate, R: Wait>(
+    rt: &R,
+    alloc: Global,
+    measure: &M,
+    bars: &Bars,
+    board: &TicketBoard<M::Proof>,
+    word: &LeastWord<M::Proof>,
+    hand: &mut Hand,
+    branch: Branch,
+    gate: &G,
+) -> Result<Option<Branch>, NoMemory>
+    requires at { IsHandAt board.now word.now hand.old }
+    requires shape { AreFor bars.now board.now word.now }
+    ensures going { OnOk result (IsGoing hand.old hand.new) }
+    ensures stopped { OnErr result (IsStopped hand.old hand.new) }
+{
+    let (claim, start) = claim_with_proof(board, rt, alloc, measure, &mut hand.pass, &branch);
+    match claim {
+        Claim::Yours => {}
+        Claim::Taken | Claim::Stranger => return Ok(None),
+    }
+    gate.at(hand.number, branch.id);
+    let stop = word.read(&mut hand.seat);
+    let start = start?;
+    let solved = solve_branch(
+        alloc,
+        measure,
+        bars,
+        &branch.choices,
+        start.as_ref(),
+        stop as i64,
+    )?;
+    offer(word, &mut hand.seat, &solved);
+    let what = board.settle(rt, &mut hand.pass, branch.id, solved.verdict, solved.pair)?;
+    share(&mut hand.lane, branch, what)
+}
+
+/// Whether no branch is open.
+pub(crate) fn is_done<P: Backing, R: Wait>(rt: &R, board: &TicketBoard<P>, hand: &mut Hand) -> bool
+    requires { hand.old.pass.home ≡ board.now }
+    ensures going { IsGoing hand.old hand.new }
+    ensures done { IsTrue result → open_count_of (state_of hand.new.pass.seen) ≡ 0 }
+{
+    board.look(rt, &mut hand.pass) == 0
+}
+
+/// Whether the worker has heard of a halt.
+pub(crate) fn has_heard<P: Backing>(word: &LeastWord<P>, hand: &mut Hand) -> bool
+    requires { hand.old.seat.home ≡ word.now }
+    ensures going { IsGoing hand.old hand.new }
+    ensures heard { result ≡ hand.new.seat.view.heard }
+{
+    word.halted(&mut hand.seat)
+}
