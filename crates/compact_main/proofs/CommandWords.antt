@@ -1,6 +1,6 @@
 -- Commands by their words.
 use Rattle.std.proofs.Common.{◌≡◌, ℕ, ◌<◌, ◌≤◌, List, [], ◌∷◌, length, get_or, Option, None, Some, refl, sym, ap, ◌∙◌, subst, arith}
-use Rattle.std.specs.Prelude.{codes, unwrap_or, IfSome, IfNone}
+use Rattle.std.specs.Prelude.{codes, unwrap_or, IfSome}
 use Rattle.std.specs.String.{string_bytes}
 use Rattle.std.specs.declared.string.String.{String}
 use Rattle.std.specs.declared.alloc.Global.{Global}
@@ -12,8 +12,8 @@ use Rattle.compact_main.specs.declared.command.Command.TheVariants as commands
 use Rattle.compact_main.specs.declared.command.Form.{Form}
 use Rattle.compact_main.specs.declared.options.Options.{Options}
 use Rattle.compact_main.specs.declared.words.Request.{Request}
-use Rattle.compact_main.specs.Commands.{texts_of, IsNumberTo, AreOptions, form_of, AskForDrawing, Asks, IsWithinLimits}
-use Rattle.compact_main.specs.Commands.AreOptions.{no_words, plain_first, pitch_first}
+use Rattle.compact_main.specs.Commands.{texts_of, IsNumberTo, AreOptions, form_of, workers_of, AskForDrawing, Asks, AskForWorkers, IsTeam, IsWithinLimits}
+use Rattle.compact_main.specs.Commands.AreOptions.{no_words, plain_first, pitch_first, workers_first}
 use Rattle.compact_main.specs.inner.Askings.{AreFound, IsRequest}
 use Rattle.compact_main.proofs.OptionWords.{one_number, one_options}
 
@@ -33,6 +33,10 @@ no_drawing options none (commands.Sample number) (digits, same, of) = cc
 pub some_drawing : (options : List (List ℕ)) (found : Options) (pitch : ℕ) (form : Form) → pitch ≡ unwrap_or found.pitch 1 → form ≡ form_of found →
     AreFound options (Some found) → Asks (codes "draw" ∷ options) (commands.Draw pitch form)
 some_drawing options found pitch form of is are = (options, refl, (found, are, of, is))
+
+pub some_workers : (options : List (List ℕ)) (found : Options) (pitch workers : ℕ) (form : Form) → workers ≡ workers_of found →
+    AreFound options (Some found) → AskForWorkers (codes "draw" ∷ options) (commands.Draw pitch form) workers
+some_workers options found pitch workers form of are = (options, refl, (found, are, of))
 
 not_lone : (command word : List ℕ) (options : List (List ℕ)) → 0 < length options → command ∷ options ≡ word ∷ [] → ⊥
 not_lone command word options some same = let none : options ≡ [] = cc in let long : length options ≡ 0 = ap length none in omega (arith, some, long)
@@ -83,16 +87,6 @@ not_one_text words many (commands.Sample number) (digits, same, of) =
 pub not_one_word : (words : List (String Global)) → (length words ≡ 1 → ⊥) → IsRequest (codes "sample" ∷ texts_of words) None
 not_one_word words many = not_one_text (texts_of words) (λ one. many (sym (length-map words string_bytes) ∙ one))
 
--- a command or none, by two clauses
-pub some_found : (words : List (List ℕ)) (result : Option Request) → IsRequest words result → IfSome result (λ request. Asks words request.command)
-some_found words None none = tt
-some_found words (Some request) asked = asked
-
-pub none_found : (words : List (List ℕ)) (result : Option Request) → IsRequest words result →
-    IfNone result ((command : Command) → Asks words command → ⊥)
-none_found words None none = none
-none_found words (Some request) asked = tt
-
 -- the texts of words
 pub some_texts : (words : List (String Global)) → 0 < length words → 0 < length (texts_of words)
 some_texts words some = let is = length-map words string_bytes in omega (arith, is, some)
@@ -106,6 +100,25 @@ within : {words : List (List ℕ)} {options : Options} → AreOptions words opti
 within no_words = (omega arith, omega arith)
 within (plain_first word rest options is none own) = within own
 within (pitch_first word digits rest options pitch is of none own) = (of.some, of.most)
+within (workers_first word digits rest options workers is of none own) = within own
+
+-- as many workers are asked for as a search can have
+team : {words : List (List ℕ)} {options : Options} → AreOptions words options → IsTeam (workers_of options)
+team no_words = (omega arith, omega arith)
+team (plain_first word rest options is none own) = team own
+team (pitch_first word digits rest options pitch is of none own) = team own
+team (workers_first word digits rest options workers is of none own) = (of.some, of.most)
+
+team_asked : (words : List (List ℕ)) (command : Command) (workers : ℕ) → AskForWorkers words command workers → IsTeam workers
+team_asked words (commands.Draw pitch form) workers (options, is, (found, are, of)) = subst IsTeam (sym of) (team are)
+team_asked words commands.Check workers is = subst IsTeam (sym is) (omega arith, omega arith)
+team_asked words commands.Measure workers is = subst IsTeam (sym is) (omega arith, omega arith)
+team_asked words commands.Verify workers is = subst IsTeam (sym is) (omega arith, omega arith)
+team_asked words (commands.Sample number) workers is = subst IsTeam (sym is) (omega arith, omega arith)
+
+pub team_found : (words : List (List ℕ)) (result : Option Request) → IsRequest words result → IfSome result (λ request. IsTeam request.workers)
+team_found words None none = tt
+team_found words (Some request) asked = team_asked words request.command request.workers asked.1
 
 pub number_asked : (words : List (List ℕ)) (command : Command) → Asks words command → IsWithinLimits command
 number_asked words (commands.Draw pitch form) (options, is, (found, are, of, same)) =

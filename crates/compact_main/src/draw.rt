@@ -29,6 +29,7 @@ pub(crate) fn draw<X: Search>(
     form: Form,
     bytes: &[u8],
 ) -> Result<Items<u8>, Refusal<Failure>>
+    requires ready { X.is_ready search.now }
     requires within { length bytes.now ≤ limit_of (Command.Draw pitch form) }
     requires pitch { IsWithinLimits (Command.Draw pitch form) }
     ensures output { IfOk result (Output (Command.Draw pitch form) bytes.now) }
@@ -41,7 +42,8 @@ pub(crate) fn draw<X: Search>(
 
 /// The best key of the drawing's shape, and the board that shows it.
 fn best_of<X: Search>(alloc: Global, search: &X, drawing: &Drawing) -> Result<Best<Flows>, NoMemory>
-    requires { IsRead drawing.now }
+    requires ready { X.is_ready search.now }
+    requires read { IsRead drawing.now }
     ensures { IfOk result (IsFound (shape_of drawing.now)) }
 {
     search.best(alloc, &drawing.bars, &drawing.reading.places)

@@ -23,7 +23,8 @@ ghost use Rattle.compact_main.specs.Outputs.{IsCertified, IsUncertified};
 ghost use Rattle.compact_main.specs.Samples.{IsSample};
 ghost use Rattle.compact_main.specs.Summaries.{IsCount, IsPairCount, IsSeparatedPair};
 ghost use Rattle.compact_main.specs.declared.command.Command.{Command};
-ghost use Rattle.compact_main.specs.declared.command.Form.TheVariants as forms;
+ghost use Rattle.compact_main.specs.declared.command.Command.TheVariants.{Draw};
+ghost use Rattle.compact_main.specs.declared.command.Form.TheVariants.{Plain, Certified};
 ghost use Rattle.compact_main.specs.declared.drawing.Drawing.{Drawing};
 
 /// A law: words ask for one command at most.
@@ -57,10 +58,9 @@ pub fn accepted_texts_have_an_output()
 /// drawing is, which is what is written without a certificate.
 pub fn outputs_are_functions_of_the_text()
     ensures drawn { (pitch : ℕ) (text a b : List ℕ) →
-        Output (Command.Draw pitch forms.Plain) text a → Output (Command.Draw pitch forms.Plain) text b →
-        a ≡ b }
-    ensures certified { (pitch : ℕ) (text a : List ℕ) → Output (Command.Draw pitch forms.Certified) text a →
-        (front : List ℕ) × Output (Command.Draw pitch forms.Plain) text front
+        Output (Draw pitch Plain) text a → Output (Draw pitch Plain) text b → a ≡ b }
+    ensures certified { (pitch : ℕ) (text a : List ℕ) → Output (Draw pitch Certified) text a →
+        (front : List ℕ) × Output (Draw pitch Plain) text front
         × ((nodes : List CertNode) × IsCertified pitch front nodes a) }
     ensures counted { (text a b : List ℕ) →
         Output Command.Check text a → Output Command.Check text b → a ≡ b }
@@ -75,8 +75,8 @@ pub fn outputs_are_functions_of_the_text()
 /// A law: the text of a drawing with its certificate is proved, if it has no more bytes than a text
 /// that is verified may have.
 pub fn what_draw_writes_is_proved()
-    ensures { (pitch : ℕ) (text written : List ℕ) → IsWithinLimits (Command.Draw pitch forms.Certified) →
-        Output (Command.Draw pitch forms.Certified) text written → length written ≤ limit_of Command.Verify →
+    ensures { (pitch : ℕ) (text written : List ℕ) → IsWithinLimits (Draw pitch Certified) →
+        Output (Draw pitch Certified) text written → length written ≤ limit_of Command.Verify →
         IsValid Command.Verify written }
 {}
 

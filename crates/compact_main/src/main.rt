@@ -1,10 +1,11 @@
 //! The program: it compacts orthogonal drawings in GML.
 //!
-//! `run_alone` is the top call and carries the program's promise. `IsRun` says what the run did,
-//! for words, a source and a sink of any kind: what was read and written, how each status came
-//! about, and that every text has an output or is refused with its first fault. `IsTold` says what
-//! the user was told. The laws say that a text is accepted or has one first fault, and that what is
-//! written is a function of the text.
+//! `run` is the top call and carries the program's promise where it returns, whatever the number of
+//! workers and the schedule. `run_alone` works with one worker, carries the same promise and always
+//! returns. `IsRun` says what the run did, for words, a source and a sink of any kind: what was
+//! read and written, how each status came about, and that every text has an output or is refused
+//! with its first fault. `IsTold` says what the user was told. The laws say that a text is accepted
+//! or has one first fault, and that what is written is a function of the text.
 #![tactic(auto)]
 
 mod command;
@@ -35,21 +36,24 @@ pub use laws::{
     texts_have_one_answer, what_draw_writes_is_proved, words_ask_for_one_command,
 };
 use notify::notify;
-pub use run::run_alone;
-pub use search::{Alone, Search};
+pub use run::{run, run_alone};
+pub use search::{Alone, Search, SearchBy, Searched};
 pub use status::{Failure, Status, Unproved, Why};
 use std::process::ExitCode;
 use std::{env, io};
 pub use summary::Summary;
+use workers::NoGate;
 
 fn main(rt: HostRuntime) -> ExitCode {
     let status = match words_of(&rt) {
-        Ok(words) => run_alone(
+        Ok(words) => run(
+            &rt,
             rt.alloc(),
             words.as_slice(),
             &mut StdSource::new(rt.stdin()),
             &mut StdSink::new(rt.stdout()),
             &mut StdSink::new(rt.stderr()),
+            &NoGate,
         ),
         Err(status) => {
             notify(&mut StdSink::new(rt.stderr()), 0, status);

@@ -2,6 +2,7 @@
 
 ghost use Rattle.std.specs.Prelude.{◌≡◌, ◌↔◌, ℕ, ◌<◌, ◌≤◌, ◌∷◌, List, length, codes, decimal};
 ghost use Rattle.std.specs.Prelude.{None, Some, IsTrue, IfSome, IfNone, MatchOption};
+ghost use Rattle.workers.specs.declared.several.TheConstants.{MOST_WORKERS};
 ghost use Rattle.compact_main.specs.declared.options.TheConstants.{MOST_OPTION_WORDS};
 ghost use Rattle.compact_main.specs.Commands as commands;
 ghost use Rattle.compact_main.specs.Commands.{texts_of, IsNumberTo, AreOptions};
@@ -10,9 +11,11 @@ ghost use Rattle.compact_main.specs.inner.Askings.{AreFound};
 use crate::command::Form;
 use compact_types::MOST_PITCH;
 use itoa::Buffer;
+use workers::MOST_WORKERS;
 
-/// The most words that the options of a drawing are: `--plain`, `--pitch` and its number.
-const MOST_OPTION_WORDS: usize = 3;
+/// The most words that the options of a drawing are: `--plain`, and `--pitch` and `--workers` with
+/// their numbers.
+const MOST_OPTION_WORDS: usize = 5;
 
 /// The options of a drawing, as they are given.
 #[derive(Clone, Copy, Debug)]
@@ -21,10 +24,12 @@ pub struct Options {
     pub plain: bool,
     /// `--pitch N`: the units between neighbouring lines of the grid.
     pub pitch: Option<u32>,
+    /// `--workers N`: how many workers search for it.
+    pub workers: Option<u32>,
 }
 
 /// The options that the words are.
-#[tactic(auto, using(crate::proofs::OptionWords::lone_word, crate::proofs::OptionWords::other_word))]
+#[tactic(auto, using(crate::proofs::OptionWords::lone_word, crate::proofs::OptionWords::no_option))]
 pub(crate) fn options_of(words: &[String]) -> Option<Options>
     ensures { AreFound (texts_of words.now) result }
 {
@@ -32,10 +37,14 @@ pub(crate) fn options_of(words: &[String]) -> Option<Options>
         [] => Some(Options {
             plain: false,
             pitch: None,
+            workers: None,
         }),
         [word, rest @ ..] if is_text(word.as_str(), "--plain") => plain_before(options_of(rest)),
         [word, digits, rest @ ..] if is_text(word.as_str(), "--pitch") => {
             pitch_before(digits.as_str(), options_of(rest))
+        }
+        [word, digits, rest @ ..] if is_text(word.as_str(), "--workers") => {
+            workers_before(digits.as_str(), options_of(rest))
         }
         _ => None,
     }
@@ -86,6 +95,54 @@ fn with_pitch(rest: Options, pitch: Option<u32>) -> Option<Options>
         Some(_) => Some(Options { pitch, ..rest }),
         None => None,
     }
+}
+
+/// The options that are `--workers` with its number and the rest.
+fn workers_before(digits: &str, rest: Option<Options>) -> Option<Options>
+    ensures { (words : List (List ℕ)) →
+        AreFound words rest → AreFound (codes "--workers" ∷ digits.now ∷ words) result }
+{
+    match rest {
+        Some(rest) => workers_first(digits, rest),
+        None => None,
+    }
+}
+
+/// The options that are `--workers` with its number and other options.
+fn workers_first(digits: &str, rest: Options) -> Option<Options>
+    ensures { (words : List (List ℕ)) →
+        AreOptions words rest → AreFound (codes "--workers" ∷ digits.now ∷ words) result }
+{
+    match rest.workers {
+        Some(_) => None,
+        None => with_workers(rest, team_of(digits)),
+    }
+}
+
+/// The options with this number of workers.
+fn with_workers(rest: Options, workers: Option<u32>) -> Option<Options>
+    ensures { MatchOption workers (result ≡ None)
+        (λ n. result ≡ Some (record rest { workers = Some n })) }
+{
+    match workers {
+        Some(_) => Some(Options { workers, ..rest }),
+        None => None,
+    }
+}
+
+/// How many workers the digits say.
+fn team_of(digits: &str) -> Option<u32>
+    ensures some { IfSome result (IsNumberTo MOST_WORKERS digits.now) }
+    ensures none { IfNone result ((n : ℕ) → IsNumberTo MOST_WORKERS digits.now n → ⊥) }
+{
+    number_of(digits, MOST_WORKERS)
+}
+
+/// How many workers search with these options.
+pub(crate) fn workers_of(options: Options) -> u32
+    ensures { result ≡ commands.workers_of options }
+{
+    options.workers.unwrap_or(1)
 }
 
 /// In which form these options want a drawing.

@@ -27,6 +27,7 @@ pub(crate) fn answer<X: Search>(
     command: Command,
     bytes: &[u8],
 ) -> Result<Items<u8>, Refusal<Failure>>
+    requires ready { X.is_ready search.now }
     requires within { length bytes.now ≤ limit_of command }
     requires number { IsWithinLimits command }
     ensures output { IfOk result (Output command bytes.now) }

@@ -1,26 +1,36 @@
 //! The top call: does what the words ask for, from reading the text to writing the output.
 
 ghost use Rattle.std.specs.Prelude.{◌≤◌, length, IfOk, OnOk, IfErr};
+ghost use Rattle.compact_types.specs.declared.limits.TheConstants.{GREATEST_THOUSANDTHS};
+ghost use Rattle.compact_types.specs.Drawings.{IsDrawing};
+ghost use Rattle.compact_types.specs.Magnitudes.{AreWithin};
 ghost use Rattle.io_ends.specs.Ends.{CountsRead};
-ghost use Rattle.compact_main.specs.Commands.{texts_of, Asks, IsWithinLimits, IsThe};
+ghost use Rattle.compact_main.specs.Commands.{texts_of, Asks, IsTeam, IsWithinLimits, IsThe};
 ghost use Rattle.compact_main.specs.Intakes.{intake_of, limit_of, Takes, IsReadOut};
 ghost use Rattle.compact_main.specs.Notes.{IsTold};
 ghost use Rattle.compact_main.specs.Runs.{IsRun};
+ghost use Rattle.compact_main.specs.inner.Found.{IsSearched};
 ghost use Rattle.compact_main.specs.inner.Readings.{IsGivenUp};
 ghost use Rattle.compact_main.specs.inner.Writes.{IsWritten};
 
 use crate::command::Command;
 use crate::notify::notify;
 use crate::output::answer;
-use crate::search::{Alone, Search};
+use crate::search::{Alone, Search, SearchBy, Searched};
 use crate::status::{Status, Why};
 use crate::words::request_of;
-use compact_types::{Items, Refusal};
+use bars::Bars;
+use compact_types::{Items, Places, Refusal};
 use io_ends::{ReadEnd, Sink, Source, read_all, write_all};
+use potentials::TotalLength;
 use std::alloc::Global;
+use std::sync::Wait;
+use std::thread::Threads;
+use workers::{Gate, search};
 
-/// Does what the words ask for, with one worker: reads what the command reads from `source`, writes
-/// what it makes of that to `out`, and returns how that ended. It always returns.
+/// Does what the words ask for, with one worker whatever they say: reads what the command reads
+/// from `source`, writes what it makes of that to `out`, and returns how that ended. It always
+/// returns.
 ///
 /// All memory is taken before the first byte is written. If the status is not Done, `notes` gets
 /// one line that says why, made without memory; a fault of `notes` changes no status.
@@ -42,6 +52,43 @@ pub fn run_alone<S: Source, K: Sink, N: Sink>(
     run_with(alloc, &Alone, words, source, out, notes)
 }
 
+/// Does what `run_alone` does, with as many workers as the words ask for. With one it is
+/// `run_alone`; several may wait for one another, and what is promised holds where this returns.
+///
+/// Neither the number of workers nor their schedule changes the drawing that is written. The
+/// certificate behind it may be another one, which shows the same. Each of several workers passes
+/// the gate with each branch that it claims.
+pub fn run<S: Source, K: Sink, N: Sink, G: Gate, R: Threads + Wait + Sync>(
+    rt: &R,
+    alloc: Global,
+    words: &[String],
+    source: &mut S,
+    out: &mut K,
+    notes: &mut N,
+    gate: &G,
+) -> Status
+    ensures run { IsRun (Asks (texts_of words.now))
+        S.left S.faults source.old source.new
+        K.held K.faults out.old out.new
+        result }
+    ensures told { IsTold (Asks (texts_of words.now))
+        N.held N.faults notes.old notes.new
+        result }
+{
+    match request_of(words) {
+        Some(request) if request.workers > 1 => {
+            let workers = request.workers;
+            let find = |alloc: Global, bars: &Bars, places: &Places| -> Searched
+                requires { IsTeam workers × IsDrawing bars.now places.now
+                    × AreWithin GREATEST_THOUSANDTHS places.now }
+                ensures { IsSearched bars.now result }
+            { search(rt, alloc, &TotalLength, bars, places, workers, gate) };
+            run_with(alloc, &SearchBy { find }, words, source, out, notes)
+        }
+        _ => run_alone(alloc, words, source, out, notes),
+    }
+}
+
 /// Does what the words ask for, as `run_alone` does, with this search.
 #[tactic(auto, using(crate::proofs::CommandWords::number_asked))]
 fn run_with<X: Search, S: Source, K: Sink, N: Sink>(
@@ -52,6 +99,7 @@ fn run_with<X: Search, S: Source, K: Sink, N: Sink>(
     out: &mut K,
     notes: &mut N,
 ) -> Status
+    requires { X.is_ready search.now }
     ensures run { IsRun (Asks (texts_of words.now))
         S.left S.faults source.old source.new
         K.held K.faults out.old out.new
@@ -80,7 +128,8 @@ fn run_command<X: Search, S: Source, K: Sink>(
     source: &mut S,
     out: &mut K,
 ) -> Status
-    requires { IsWithinLimits command }
+    requires ready { X.is_ready search.now }
+    requires number { IsWithinLimits command }
     ensures { IsRun (IsThe command)
         S.left S.faults source.old source.new
         K.held K.faults out.old out.new

@@ -25,6 +25,7 @@ pub(crate) fn draw_sample<X: Search>(
     search: &X,
     number: u32,
 ) -> Result<Items<u8>, NoMemory>
+    requires ready { X.is_ready search.now }
     requires some { 1 ≤ number }
     requires most { number ≤ MOST_SAMPLE }
     ensures { IfOk result (IsSampleOutput number) }

@@ -3,23 +3,28 @@
 ghost use Rattle.std.specs.Prelude.{◌≡◌, ◌↔◌, ℕ, ◌<◌, [], ◌∷◌, List, length, codes, IsTrue};
 ghost use Rattle.std.specs.Prelude.{IfSome, IfNone};
 ghost use Rattle.compact_main.specs.declared.command.Command.{Command};
-ghost use Rattle.compact_main.specs.Commands.{texts_of, Asks};
+ghost use Rattle.compact_main.specs.Commands.{texts_of, Asks, AskForWorkers, IsTeam};
 ghost use Rattle.compact_main.specs.inner.Askings.{AreFound, IsRequest};
 
 use crate::command::Command;
-use crate::options::{Options, form_of, has_too_many, is_text, number_of, options_of};
+use crate::options::{Options, form_of, has_too_many, is_text, number_of, options_of, workers_of};
 use crate::sample::MOST_SAMPLE;
 
-/// What the words ask for: a command. What does not change the output, as a number of workers,
-/// belongs beside the command and not in it.
+/// What the words ask for: a command, and beside it, since no output depends on it, by how many
+/// workers the best drawing is searched for.
 #[derive(Clone, Copy, Debug)]
 pub struct Request {
     pub command: Command,
+    pub workers: u32,
 }
 
 /// What the words ask for; `None` if they ask for no command. No memory is taken.
+#[tactic(auto, using(crate::proofs::CommandWords::team_found))]
 pub(crate) fn request_of(words: &[String]) -> Option<Request>
     ensures some { IfSome result (λ request. Asks (texts_of words.now) request.command) }
+    ensures workers { IfSome result (λ request.
+        AskForWorkers (texts_of words.now) request.command request.workers) }
+    ensures team { IfSome result (λ request. IsTeam request.workers) }
     ensures none { IfNone result ((command : Command) → Asks (texts_of words.now) command → ⊥) }
 {
     match words {
@@ -53,16 +58,19 @@ fn lone_command(command: &str) -> Option<Request>
     if is_text(command, "check") {
         return Some(Request {
             command: Command::Check,
+            workers: 1,
         });
     }
     if is_text(command, "measure") {
         return Some(Request {
             command: Command::Measure,
+            workers: 1,
         });
     }
     if is_text(command, "verify") {
         return Some(Request {
             command: Command::Verify,
+            workers: 1,
         });
     }
     None
@@ -78,7 +86,8 @@ fn drawing(options: &[String]) -> Option<Request>
     drawing_with(options_of(options))
 }
 
-/// The request for a drawing with the options that were found: the pitch is 1 if none is given.
+/// The request for a drawing with the options that were found: the pitch is 1 if none is given, and
+/// so is the number of workers.
 fn drawing_with(options: Option<Options>) -> Option<Request>
     ensures { (words : List (List ℕ)) →
         AreFound words options → IsRequest (codes "draw" ∷ words) result }
@@ -89,6 +98,7 @@ fn drawing_with(options: Option<Options>) -> Option<Request>
                 pitch: options.pitch.unwrap_or(1),
                 form: form_of(options),
             },
+            workers: workers_of(options),
         }),
         None => None,
     }
@@ -111,6 +121,7 @@ fn sample_of(digits: &str) -> Option<Request>
     match number_of(digits, MOST_SAMPLE) {
         Some(number) => Some(Request {
             command: Command::Sample { number },
+            workers: 1,
         }),
         None => None,
     }

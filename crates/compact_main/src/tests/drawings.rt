@@ -14,6 +14,10 @@ const AT_50: &[&str] = &["draw", "--plain", "--pitch", "50"];
 
 const PITCH_FIRST: &[&str] = &["draw", "--pitch", "50", "--plain"];
 
+const PITCH_AND_WORKERS: &[&str] = &["draw", "--plain", "--pitch", "50", "--workers", "3"];
+
+const WORKERS_FIRST: &[&str] = &["draw", "--workers", "64", "--pitch", "50", "--plain"];
+
 const AT_10000: &[&str] = &["draw", "--plain", "--pitch", "10000"];
 
 #[test]
@@ -69,6 +73,8 @@ fn draws_at_a_pitch(rt: HostRuntime) -> Result<(), Fail> {
         asked(AT_1, TWO_NODES, TWO_NODES_DRAWN),
         asked(AT_50, TWO_NODES, TWO_NODES_50_APART),
         asked(PITCH_FIRST, TWO_NODES, TWO_NODES_50_APART),
+        asked(PITCH_AND_WORKERS, TWO_NODES, TWO_NODES_50_APART),
+        asked(WORKERS_FIRST, TWO_NODES, TWO_NODES_50_APART),
         asked(AT_10000, TWO_NODES, TWO_NODES_10000_APART),
         asked(AT_50, STYLED, STYLED_50_APART),
     ];

@@ -34,7 +34,12 @@ fn refuses_options(rt: HostRuntime) -> Result<(), Fail> {
         bad_words("a pitch twice", &twice),
         bad_words("plain twice", &["draw", "--plain", "--plain"]),
         bad_words("one word, and no plain", &["draw", "--pitch=5"]),
-        bad_words("workers", &["draw", "--workers", "0"]),
+        bad_words("no workers", &["draw", "--workers", "0"]),
+        bad_words("too many workers", &["draw", "--workers", "65"]),
+        bad_words(
+            "workers twice",
+            &["draw", "--workers", "2", "--workers", "2"],
+        ),
         bad_words("options first", &["--plain", "draw"]),
     ];
     for row in &rows {

@@ -19,3 +19,10 @@ returns-in-len2-up t c =
     (sym (two_rest_texts c.args.words.now c.word-item-2.result c.digits-item.result (codes "--pitch") c.as_str-in-len2-up.result.now (omega arith)
     c.word-item-2.is c.digits-item.is (sym c.as_str-2.ensures.value ∙ c.is_text-2.ensures.0 c.if-is_text-2.true) (sym c.as_str-in-len2-up.ensures.value)))
     (c.pitch_before.ensures _ c.options_of-in-len2-up.ensures)
+
+pub returns-in-len2-up-2 : goal.returns-in-len2-up-2
+returns-in-len2-up-2 t c =
+    subst (λ texts. AreFound texts c.workers_before.result)
+    (sym (two_rest_texts c.args.words.now c.word-item-3.result c.digits-item-2.result (codes "--workers") c.as_str-in-len2-up-2.result.now (omega arith)
+    c.word-item-3.is c.digits-item-2.is (sym c.as_str-3.ensures.value ∙ c.is_text-3.ensures.0 c.if-is_text-3.true) (sym c.as_str-in-len2-up-2.ensures.value)))
+    (c.workers_before.ensures _ c.options_of-in-len2-up-2.ensures)

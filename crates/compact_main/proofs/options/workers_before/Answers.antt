@@ -1,0 +1,6 @@
+use Rattle.std.proofs.Common.{subst}
+use Rattle.compact_main.specs.inner.Askings.{AreFound}
+use Rattle.compact_main.proofs.options.workers_before.Goals as goal
+
+pub returns-in-Some : goal.returns-in-Some
+returns-in-Some c = λ words are. c.workers_first.ensures words (subst (AreFound words) c.in-Some.is are)
