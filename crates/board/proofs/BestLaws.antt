@@ -45,7 +45,7 @@ distance_not_negative p q =
     let y = gap_not_negative p.y q.y in
     omega (arith, ints, x, y)
 
-worth_not_negative : (objective : Objective) (shape : Shape) (places : Places) → pos 0 ≤ℤ worth_of objective shape places
+pub worth_not_negative : (objective : Objective) (shape : Shape) (places : Places) → pos 0 ≤ℤ worth_of objective shape places
 worth_not_negative total_length shape places =
     let least = sum_to-not_greater (λ i. pos 0) (λ i. distance (begin_of shape.plan places i) (end_of shape.plan places i)) (length shape.plan.pieces)
     (λ i below. distance_not_negative (begin_of shape.plan places i) (end_of shape.plan places i)) in

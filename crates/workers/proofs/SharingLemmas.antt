@@ -4,41 +4,20 @@ use Rattle.std.specs.Prelude.{◌≤ℤ◌, OnErr, unsigned_abs}
 use Rattle.std.proofs.lemmas.Int.{ints, clamps}
 use Rattle.std.proofs.lemmas.List.{append-nil}
 use Rattle.compact_types.specs.declared.places.Key.{Key}
-use Rattle.compact_types.specs.declared.places.Places.{Places}
-use Rattle.compact_types.specs.declared.places.Point.{Point}
 use Rattle.compact_types.specs.declared.plan.Shape.{Shape}
 use Rattle.compact_types.specs.declared.search.Branch.{Branch}
 use Rattle.compact_types.specs.Bests.{Objective, IsAttained, worth_of}
-use Rattle.compact_types.specs.Bests.Objective.{total_length}
-use Rattle.compact_types.specs.Drawings.{IsDrawing, begin_of, end_of}
-use Rattle.compact_types.specs.Lengths.{distance, gap}
-use Rattle.compact_types.proofs.Laws.{sum_to-not_greater, sum_to-nothing}
+use Rattle.compact_types.specs.Drawings.{IsDrawing}
 use Rattle.shape_graphs.specs.declared.measure.Verdict.{Verdict}
 use Rattle.shape_graphs.specs.declared.measure.Verdict.TheVariants.{Least}
 use Rattle.shape_graphs.specs.Measures.{IsFoundLeast, IsRight}
 use Rattle.board.specs.declared.entries.Settled.{Settled}
 use Rattle.board.specs.Facts.{IsDrawnKey}
 use Rattle.board.specs.Verdicts.{IsBranchPairFor}
+use Rattle.board.proofs.Laws.{worth_not_negative}
 use Rattle.steal_lanes.specs.States.{LaneState}
 use Rattle.steal_lanes.specs.Views.{with_branch}
 use Rattle.workers.specs.inner.Sharing.{HasPut, IsSolvedFor, children_to_put}
-
--- no places are worth less than nothing
-gap_not_negative : (a b : ℤ) → pos 0 ≤ℤ gap a b
-gap_not_negative a b = omega (arith, ints, clamps)
-
-distance_not_negative : (p q : Point) → pos 0 ≤ℤ distance p q
-distance_not_negative p q =
-    let x = gap_not_negative p.x q.x in
-    let y = gap_not_negative p.y q.y in
-    omega (arith, ints, x, y)
-
-worth_not_negative : (objective : Objective) (shape : Shape) (places : Places) → pos 0 ≤ℤ worth_of objective shape places
-worth_not_negative total_length shape places =
-    let least = sum_to-not_greater (λ i. pos 0) (λ i. distance (begin_of shape.plan places i) (end_of shape.plan places i)) (length shape.plan.pieces)
-    (λ i below. distance_not_negative (begin_of shape.plan places i) (end_of shape.plan places i)) in
-    let none = sum_to-nothing (length shape.plan.pieces) in
-    omega (arith, ints, least, none)
 
 -- a least key without a pair is that of a drawing, and its worth is what is offered
 module _ {P : Type 0} (objective : Objective) (shape : Shape) (verdict : Verdict P) (pair : Option (ℕ × ℕ)) (key : Key) (proof : P)
