@@ -1,12 +1,12 @@
 -- Workers that work side by side, and the end of their search.
-use Rattle.std.proofs.Common.{◌≡◌, ℕ, ◌+◌, ◌<◌, ◌⊎◌, inl, inr, List, [], ◌∷◌, ◌++◌, length, Bool, true, false, sym, ap, ◌∙◌, subst, arith}
-use Rattle.std.specs.Prelude.{All, ◌||◌, IfOk, Result, Ok, Err, Some, slice_get, slice_index_or, slice_set}
+use Rattle.std.proofs.Common.{◌≡◌, ℕ, ◌+◌, ◌⊎◌, inl, inr, List, [], ◌∷◌, ◌++◌, length, Bool, true, false, sym, ap, ◌∙◌, subst, arith}
+use Rattle.std.specs.Prelude.{All, ◌||◌, IfOk, OnErr, OnOk, IfSome, MatchOption, Option, None, Result, Ok, Err, Some, slice_get, slice_set}
 use Rattle.std.proofs.lemmas.List.{append-nil, length-append, length-set}
-use Rattle.std.proofs.lemmas.List.Elements.{All-append, All-cons, All-get_or, All-head, All-nil, All-set, All-tail}
+use Rattle.std.proofs.lemmas.List.Elements.{All-append, All-cons, All-get_or, All-head, All-nil, All-set, All-tail, All-weaker}
 use Rattle.std.proofs.lemmas.Option.{get_or_from_slice_get, slice_get_within}
 use Rattle.compact_types.specs.declared.plan.Shape.{Shape}
 use Rattle.board.specs.declared.entries.Entry.{Entry}
-use Rattle.board.specs.Boards.{BoardView, board_state}
+use Rattle.board.specs.Boards.{BoardView}
 use Rattle.board.specs.Histories.{IsLegal, open_count_of, state_of}
 use Rattle.board.proofs.Laws.{nothing_opens_again}
 use Rattle.least_word.specs.declared.view.View.{View}
@@ -14,8 +14,10 @@ use Rattle.least_word.specs.Views.{after_halt_load}
 use Rattle.least_word.specs.Seats.{Home as WordHome}
 use Rattle.ticket_board.specs.Passes.{AreNewcomers, Begins, Home, PassView}
 use Rattle.workers.specs.declared.desks.Desk.{Desk}
-use Rattle.workers.specs.Hands.{IsHandAt}
-use Rattle.workers.specs.inner.Lives.{AreDesksAt, AreSameDesks}
+use Rattle.workers.specs.declared.hands.Hand.{Hand}
+use Rattle.workers.specs.Hands.{HasEndedWell, HasHalted, IsHandAt}
+use Rattle.workers.specs.inner.Lives.{AreDesksAt, AreSameDesks, HaveAllMet}
+use Rattle.workers.proofs.HandLemmas.{begins_further}
 use Rattle.workers.specs.inner.Turns.{AreAllSettled}
 
 -- all of a list is all of its front, and its last
@@ -80,6 +82,40 @@ pub newcomers_made : {E : Type 0} (first callers : ℕ) (seen : List Entry) (res
     IfOk result (λ made. All (λ (pass : PassView). pass.home ≡ made.0) made.1)
 newcomers_made first callers seen (Ok made) are = newcomers_at made.0 first callers seen made.1 are
 newcomers_made first callers seen (Err refused) are = tt
+
+-- what a worker knew at first it knows at its end
+pub seen_to_end : {T E : Type 0} (result : Result T E) (old new : Hand) → OnOk result (HasEndedWell old new) → OnErr result (HasHalted old new) →
+    Begins old.pass.seen new.pass.seen
+seen_to_end (Ok value) old new ended halted = ended.worked.seen
+seen_to_end (Err error) old new ended halted = halted.worked.seen
+
+-- it stays in what has met
+pub all_met_further : (desks : List Desk) (mid new : PassView) → Begins mid.seen new.seen → HaveAllMet desks mid → HaveAllMet desks new
+all_met_further desks mid new later met =
+    All-weaker (λ (desk : Desk). Begins desk.hand.pass.seen mid.seen) (λ (desk : Desk). Begins desk.hand.pass.seen new.seen)
+    (λ desk first. begins_further desk.hand.pass.seen mid.seen new.seen first later) desks met
+
+pub all_met_with : (front : List Desk) (last : Desk) (whole : List Desk) (new : PassView) → whole ≡ front ++ last ∷ [] → HaveAllMet front new →
+    Begins last.hand.pass.seen new.seen → HaveAllMet whole new
+all_met_with front last whole new is met seen =
+    let P = λ (desk : Desk). Begins desk.hand.pass.seen new.seen in
+    subst (λ (l : List Desk). All P l) (sym is) (All-append P front (last ∷ []) met (All-cons P last [] seen (All-nil P)))
+
+pub none_to_meet : (whole : List Desk) (new : PassView) → whole ≡ [] → HaveAllMet whole new
+none_to_meet whole new is =
+    let P = λ (desk : Desk). Begins desk.hand.pass.seen new.seen in
+    subst (λ (l : List Desk). All P l) (sym is) (All-nil P)
+
+-- what is taken off a list, and what is left of it
+pub popped_last : {X : Type 0} (P : X → Type 0) (old new : List X) (taken : Option X) →
+    MatchOption taken ((old ≡ []) × (new ≡ [])) (λ last. old ≡ new ++ last ∷ []) → All P old → IfSome taken P
+popped_last P old new None is all = tt
+popped_last P old new (Some last) is all = taken_last P old new last is all
+
+pub popped_front : {X : Type 0} (P : X → Type 0) (old new : List X) (taken : Option X) →
+    MatchOption taken ((old ≡ []) × (new ≡ [])) (λ last. old ≡ new ++ last ∷ []) → All P old → All P new
+popped_front P old new None is all = subst (λ (l : List _). All P l) (sym is.1) (All-nil P)
+popped_front P old new (Some last) is all = taken_front P old new last is all
 
 -- without an open branch none opens later
 pub none_open_later : (front whole : List Entry) → Begins front whole → IsLegal whole → open_count_of (state_of front) ≡ 0 →

@@ -34,7 +34,7 @@ use Rattle.workers.specs.inner.Sharing.{HasPut, child_of, children_to_put}
 begins_itself : (history : List Entry) → Begins history history
 begins_itself history = record { rest = []; whole_is = sym (append-nil history) }
 
-begins_further : (a b c : List Entry) → Begins a b → Begins b c → Begins a c
+pub begins_further : (a b c : List Entry) → Begins a b → Begins b c → Begins a c
 begins_further a b c first second = record {
   rest = first.rest ++ second.rest;
   whole_is =
@@ -42,7 +42,7 @@ begins_further a b c first second = record {
 }
 
 -- a branch that is known stays known
-known_later : (front whole : List Entry) (branch : Branch) → Begins front whole → IsKnown (state_of front) branch → IsKnown (state_of whole) branch
+pub known_later : (front whole : List Entry) (branch : Branch) → Begins front whole → IsKnown (state_of front) branch → IsKnown (state_of whole) branch
 known_later front whole branch later known =
     subst (λ (h : List Entry). IsKnown (state_of h) branch) (sym later.whole_is)
     (record {

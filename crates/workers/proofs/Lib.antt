@@ -4,4 +4,5 @@ mod EndLemmas
 mod FirstLemmas
 mod HandLemmas
 mod SharingLemmas
+mod StartLemmas
 mod TurnLemmas

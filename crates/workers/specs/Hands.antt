@@ -5,11 +5,11 @@ use Rattle.compact_types.specs.declared.search.Branch.{Branch}
 use Rattle.board.specs.declared.entries.Entry.{Entry}
 use Rattle.board.specs.declared.entries.Entry.TheVariants as entries
 use Rattle.board.specs.declared.entries.Settled.TheVariants.{Split, Closed, Improved}
-use Rattle.board.specs.Histories.{IsKnown, open_count_of, state_of}
+use Rattle.board.specs.Histories.{IsKnown, IsWaiting, open_count_of, state_of}
 use Rattle.least_word.specs.declared.view.View.{View}
 use Rattle.least_word.specs.Seats.{Home as WordHome}
 use Rattle.steal_lanes.specs.States.{DequeId, Home as LaneHome}
-use Rattle.ticket_board.specs.Passes.{Begins, Home as BoardHome}
+use Rattle.ticket_board.specs.Passes.{Begins, Home as BoardHome, PassView}
 use Rattle.workers.specs.declared.hands.Hand.{Hand}
 use Rattle.workers.specs.declared.hands.Other.{Other}
 
@@ -62,6 +62,12 @@ pub record HasWorked (old new : Hand) (left : List ℕ) : Type 0 where
   pub lane : new.lane.view.put ≡ old.lane.view.put ++ put
   pub in_order : map (λ branch. branch.id) put ++ left ≡ put_after_all gained
   pub known : All (IsKnown (state_of new.pass.seen)) put
+
+-- a branch that the first pass knew does not wait any longer in what the second has seen: a caller
+-- has claimed it
+abbrev pub IsTakenUp : PassView → Branch → PassView → Type 0
+IsTakenUp old branch new =
+    IsKnown (state_of old.seen) branch → IsWaiting (state_of new.seen) branch.id → ⊥
 
 -- the worker may end: its pass has seen a history without an open branch, or its seat has heard of a
 -- halt

@@ -4,7 +4,8 @@ ghost use Rattle.std.specs.Prelude.{◌≡◌, ◌<◌, ◌≤◌, length, All, 
 ghost use Rattle.std.specs.Thread.{IsSync};
 ghost use Rattle.workers.specs.Hands.{AreFor, IsHandAt, MayEnd};
 ghost use Rattle.workers.specs.declared.several.TheConstants.{MOST_WORKERS};
-ghost use Rattle.workers.specs.inner.Lives.{AreDesksAt, AreSameDesks, HaveEnded};
+ghost use Rattle.ticket_board.specs.Passes.{Begins};
+ghost use Rattle.workers.specs.inner.Lives.{AreDesksAt, AreSameDesks, HaveAllMet, HaveEnded};
 
 use crate::desks::Desk;
 use crate::gates::Gate;
@@ -124,7 +125,7 @@ fn way_into(desk: &mut Desk) -> Result<Other, NoMemory>
 
 /// Lets the workers at the desks work side by side. The worker at the last desk begins with the
 /// first branch, on the caller's thread, so that the search gets on wherever no thread can be
-/// started.
+/// started. All that they knew at first is in what has met.
 pub(crate) fn all_work<M: Measure, G: Gate, R: Threads + Wait + Sync>(
     rt: &R,
     alloc: Global,
@@ -139,7 +140,8 @@ pub(crate) fn all_work<M: Measure, G: Gate, R: Threads + Wait + Sync>(
     requires some { 0 < length desks }
     requires desks { AreDesksAt board.now word.now desks }
     requires shape { AreFor bars.now board.now word.now }
-    ensures { HaveEnded board.now word.now result.pass result.seat }
+    ensures ended { HaveEnded board.now word.now result.pass result.seat }
+    ensures met { HaveAllMet desks result.pass }
 {
     let mut desks = desks;
     match desks.pop() {
@@ -167,7 +169,9 @@ fn work_beside<M: Measure, G: Gate, R: Threads + Wait + Sync>(
     requires first { IsHandAt board.now word.now first }
     requires desks { AreDesksAt board.now word.now desks }
     requires shape { AreFor bars.now board.now word.now }
-    ensures { HaveEnded board.now word.now result.pass result.seat }
+    ensures ended { HaveEnded board.now word.now result.pass result.seat }
+    ensures met { Begins first.pass.seen result.pass.seen }
+    ensures all_met { HaveAllMet desks result.pass }
 {
     let mut desks = desks;
     match desks.pop() {
@@ -184,14 +188,17 @@ fn work_beside<M: Measure, G: Gate, R: Threads + Wait + Sync>(
                     requires shape { AreFor bars.now board.now word.now }
                     ensures at { IsHandAt board.entry.now word.entry.now result.0 }
                     ensures may_end { MayEnd result.0 }
+                    ensures seen { Begins hand.pass.seen result.0.pass.seen }
                 { work(rt, alloc, measure, bars, board, word, hand, None, gate) },
                 move || -> Met
                     requires row { IsSync R.row }
                     requires first { IsHandAt board.now word.now first }
                     requires desks { AreDesksAt board.now word.now desks }
                     requires shape { AreFor bars.now board.now word.now }
-                    ensures { HaveEnded board.entry.now word.entry.now
+                    ensures ended { HaveEnded board.entry.now word.entry.now
                         result.pass result.seat }
+                    ensures met { Begins first.pass.seen result.pass.seen }
+                    ensures all_met { HaveAllMet desks result.pass }
                 {
                     work_beside(
                         rt, alloc, measure, bars, board, word, first, desks, start, gate,
@@ -223,7 +230,9 @@ fn meet<P: Backing>(board: &TicketBoard<P>, word: &LeastWord<P>, met: &mut Met, 
     requires at { IsHandAt board.now word.now hand }
     requires met { HaveEnded board.now word.now met.old.pass met.old.seat }
     requires hand { MayEnd hand }
-    ensures { HaveEnded board.now word.now met.new.pass met.new.seat }
+    ensures ended { HaveEnded board.now word.now met.new.pass met.new.seat }
+    ensures first { Begins met.old.pass.seen met.new.pass.seen }
+    ensures second { Begins hand.pass.seen met.new.pass.seen }
 {
     let Met { pass, seat } = met_by(hand);
     board.meet(&mut met.pass, pass);

@@ -1,11 +1,13 @@
 //! The life of one worker among several.
 
-ghost use Rattle.std.specs.Prelude.{◌≡◌, OnErr, OnOk};
-ghost use Rattle.workers.specs.Hands.{AreFor, HasEndedWell, HasHalted, IsHandAt};
-ghost use Rattle.workers.specs.inner.Lives.{IsStopped, halting};
+ghost use Rattle.std.specs.Prelude.{◌≡◌, IfOk, IfSome, MatchOption, OnErr, OnOk};
+ghost use Rattle.workers.specs.Hands.{AreFor, HasEndedWell, HasHalted, IsHandAt, IsTakenUp};
+ghost use Rattle.workers.specs.inner.Lives.{IsGoing, IsStopped, halting};
+ghost use Rattle.workers.specs.inner.Sharing.{IsReady};
 
 use crate::gates::Gate;
 use crate::hands::Hand;
+use crate::sharing::Next;
 use crate::steps::{advance, has_heard, is_done, next_branch};
 use bars::Bars;
 use compact_types::{Branch, NoMemory};
@@ -34,6 +36,8 @@ pub fn work<M: Measure, G: Gate, R: Wait>(
 ) -> (Hand, Result<(), NoMemory>)
     requires at { IsHandAt board.now word.now hand }
     requires shape { AreFor bars.now board.now word.now }
+    ensures begun { MatchOption start (Unit {0}) (λ branch.
+        IsTakenUp hand.pass branch result.0.pass) }
     ensures ended { OnOk result.1 (HasEndedWell hand result.0) }
     ensures refused { OnErr result.1 (HasHalted hand result.0) }
 {
@@ -70,16 +74,21 @@ fn live<M: Measure, G: Gate, R: Wait>(
 ) -> Result<(), NoMemory>
     requires at { IsHandAt board.now word.now hand.old }
     requires shape { AreFor bars.now board.now word.now }
+    ensures begun { MatchOption start (Unit {0}) (λ branch.
+        IsTakenUp hand.old.pass branch hand.new.pass) }
     ensures ended { OnOk result (HasEndedWell hand.old hand.new) }
     ensures stopped { OnErr result (IsStopped hand.old hand.new) }
 {
-    let mut kept = start;
+    let mut kept = begin(rt, alloc, measure, bars, board, word, hand, start, gate)?;
     // Waits longer after each look that finds nothing to do, so that others get on meanwhile.
     let backoff = Backoff::new();
     for _ in rt.forever() {
+        if has_heard(word, hand) {
+            return Ok(());
+        }
         match next_branch(hand, kept) {
-            Some(branch) => {
-                kept = advance(rt, alloc, measure, bars, board, word, hand, branch, gate)?;
+            Some(next) => {
+                kept = advance(rt, alloc, measure, bars, board, word, hand, next, gate)?;
                 backoff.reset();
             }
             None => {
@@ -90,9 +99,36 @@ fn live<M: Measure, G: Gate, R: Wait>(
                 backoff.snooze();
             }
         }
-        if has_heard(word, hand) {
-            return Ok(());
-        }
     }
     unreachable!()
+}
+
+/// Advances on the branch to begin with, if one is given.
+fn begin<M: Measure, G: Gate, R: Wait>(
+    rt: &R,
+    alloc: Global,
+    measure: &M,
+    bars: &Bars,
+    board: &TicketBoard<M::Proof>,
+    word: &LeastWord<M::Proof>,
+    hand: &mut Hand,
+    start: Option<Branch>,
+    gate: &G,
+) -> Result<Option<Next<M::Proof>>, NoMemory>
+    requires at { IsHandAt board.now word.now hand.old }
+    requires shape { AreFor bars.now board.now word.now }
+    ensures ready { IfOk result (λ kept. IfSome kept (IsReady (M.Proof.backs bars.now))) }
+    ensures begun { MatchOption start (Unit {0}) (λ branch.
+        IsTakenUp hand.old.pass branch hand.new.pass) }
+    ensures going { OnOk result (IsGoing hand.old hand.new) }
+    ensures stopped { OnErr result (IsStopped hand.old hand.new) }
+{
+    match start {
+        Some(branch) => {
+            let start = None;
+            let next = Next { branch, start };
+            advance(rt, alloc, measure, bars, board, word, hand, next, gate)
+        }
+        None => Ok(None),
+    }
 }

@@ -1,6 +1,6 @@
 //! The search with several workers.
 
-ghost use Rattle.std.specs.Prelude.{◌≡◌, ◌≤◌, length, All, IfOk};
+ghost use Rattle.std.specs.Prelude.{◌≡◌, ◌≤◌, [], length, All, IfOk};
 ghost use Rattle.compact_types.specs.declared.limits.TheConstants.{GREATEST_THOUSANDTHS};
 ghost use Rattle.compact_types.specs.Bests.{IsBest, worth_of};
 ghost use Rattle.compact_types.specs.Drawings.{IsDrawing};
@@ -126,7 +126,10 @@ fn close<P: Backing, R: Wait>(
 }
 
 /// The branch with which a search begins: it has no choices.
-pub(crate) fn first_branch(alloc: Global) -> Branch {
+pub(crate) fn first_branch(alloc: Global) -> Branch
+    ensures id { result.id ≡ 0 }
+    ensures choices { result.choices.choices ≡ [] }
+{
     Branch {
         id: 0,
         choices: Extension {

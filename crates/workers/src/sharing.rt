@@ -1,19 +1,37 @@
-//! What a worker gives to the others: the worth of a drawing, and branches.
+//! What a worker gives to the others, the worth of a drawing and branches, and what it keeps.
 
-ghost use Rattle.std.specs.Prelude.{◌≡◌, ◌+◌, ◌<◌, ◌^◌, [], List, IfOk, OnErr, OnOk};
+ghost use Rattle.std.specs.Prelude.{◌≡◌, ◌+◌, ◌<◌, ◌^◌, [], List, IfOk, IfSome, OnErr, OnOk};
+ghost use Rattle.compact_types.specs.declared.plan.Shape.{Shape as AnyShape};
 ghost use Rattle.compact_types.specs.declared.search.Branch.{Branch as AnyBranch};
 ghost use Rattle.board.specs.declared.entries.Settled.TheVariants as settled;
+ghost use Rattle.board.specs.Verdicts.{IsSoundVerdict};
 ghost use Rattle.steal_lanes.specs.Views.{with_branch};
 ghost use Rattle.ticket_board.specs.Turns.{ChildrenFit};
 ghost use Rattle.workers.specs.Hands.{IsQuiet};
-ghost use Rattle.workers.specs.inner.Sharing.{HasPut, IsSolvedFor, child_of};
+ghost use Rattle.workers.specs.inner.Sharing.{
+  HasPut,
+  IsChildOf,
+  IsReady,
+  IsSolvedFor,
+  IsStartFor,
+  child_of,
+};
 
 use crate::branch::Solved;
 use board::Settled;
 use compact_types::{Branch, Choice, NoMemory};
 use least_word::{LeastWord, WordSeat};
-use shape_graphs::{Backing, Verdict};
+use shape_graphs::{Backing, Measure, Verdict};
+use std::alloc::Global;
 use steal_lanes::Lane;
+
+/// The branch that a worker goes on with.
+#[derive(Drop)]
+pub(crate) struct Next<P: Backing> {
+    pub(crate) branch: Branch,
+    /// A proof from which a solver of the branch may begin, if the worker has one at hand.
+    pub(crate) start: Option<P>,
+}
 
 /// Offers the worth of a least key whose places are a drawing: no branch is of use whose solutions
 /// are worth more.
@@ -29,17 +47,68 @@ pub(crate) fn offer<P: Backing>(word: &LeastWord<P>, seat: &mut WordSeat, solved
     }
 }
 
-/// Puts the first three children of a split into the lane, in the order of their numbers. The
-/// fourth, to go on with.
-pub(crate) fn share(
+/// A copy of the verdict's proof for the child that the worker goes on with, if the branch is to be
+/// split. It is made before the turn in which the branch is settled, so that no other worker waits
+/// for it.
+pub(crate) fn copy_for_child<M: Measure>(
+    alloc: Global,
+    measure: &M,
+    solved: &Solved<M::Proof>,
+) -> Result<Option<M::Proof>, NoMemory>
+    ensures { (shape : AnyShape) (branch : AnyBranch) →
+        IsSoundVerdict M.Proof.objective M.Proof.backs shape branch.choices.choices
+        solved.now.verdict →
+        IfOk result (λ copy. IfSome copy (IsStartFor (M.Proof.backs shape) branch)) }
+{
+    match (&solved.verdict, solved.pair) {
+        (Verdict::Least { proof, .. }, Some(_)) => Ok(Some(measure.again(alloc, proof)?)),
+        _ => Ok(None),
+    }
+}
+
+/// Shares the children of a split: the worker goes on with the fourth, from this proof.
+pub(crate) fn go_on<P: Backing>(
     lane: &mut Lane,
     branch: Branch,
     what: Settled,
-) -> Result<Option<Branch>, NoMemory>
+    start: Option<P>,
+) -> Result<Option<Next<P>>, NoMemory>
+    requires { ChildrenFit what }
+    ensures ready { (shape : AnyShape) → IfSome start (IsStartFor (P.backs shape) branch) →
+        IfOk result (λ next. IfSome next (IsReady (P.backs shape))) }
+    ensures all { OnOk result (HasPut branch what [] lane.old lane.new) }
+    ensures some { OnErr result
+        ((left : List AnyBranch) × HasPut branch what left lane.old lane.new) }
+{
+    match share(lane, branch, what) {
+        Ok(Some(last)) => Ok(Some(Next {
+            branch: last,
+            start,
+        })),
+        Ok(None) => Ok(None),
+        Err(refused) => Err(refused),
+    }
+}
+
+/// The branch, if one is given, without a proof at hand.
+pub(crate) fn at_first<P: Backing>(branch: Option<Branch>) -> Option<Next<P>>
+    ensures { (shape : AnyShape) → IfSome result (IsReady (P.backs shape)) }
+{
+    let branch = branch?;
+    Some(Next {
+        branch,
+        start: None,
+    })
+}
+
+/// Puts the first three children of a split into the lane, in the order of their numbers. The
+/// fourth, to go on with.
+fn share(lane: &mut Lane, branch: Branch, what: Settled) -> Result<Option<Branch>, NoMemory>
     requires { ChildrenFit what }
     ensures all { OnOk result (HasPut branch what [] lane.old lane.new) }
     ensures some { OnErr result
         ((left : List AnyBranch) × HasPut branch what left lane.old lane.new) }
+    ensures last { IfOk result (λ last. IfSome last (IsChildOf branch)) }
 {
     match what {
         Settled::Split { first, s, t } => Ok(Some(share_children(lane, branch, first, s, t)?)),

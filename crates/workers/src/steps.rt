@@ -1,14 +1,19 @@
 //! What a worker does with one branch, and where it gets the next one from.
 
-ghost use Rattle.std.specs.Prelude.{◌≡◌, IsTrue, OnErr, OnOk};
+ghost use Rattle.std.specs.Prelude.{◌≡◌, IfOk, IfSome, IsTrue, OnErr, OnOk};
+ghost use Rattle.compact_types.specs.declared.plan.Shape.{Shape as AnyShape};
+ghost use Rattle.board.specs.declared.entries.Claim.TheVariants.{Yours};
 ghost use Rattle.board.specs.Histories.{open_count_of, state_of};
-ghost use Rattle.workers.specs.Hands.{AreFor, IsHandAt};
+ghost use Rattle.ticket_board.specs.Passes.{HasSeenMore};
+ghost use Rattle.ticket_board.specs.Turns.{IsClaimed};
+ghost use Rattle.workers.specs.Hands.{AreFor, IsHandAt, IsTakenUp};
 ghost use Rattle.workers.specs.inner.Lives.{IsGoing, IsStopped};
+ghost use Rattle.workers.specs.inner.Sharing.{IsReady, MayStart};
 
 use crate::branch::solve_branch;
 use crate::gates::Gate;
 use crate::hands::Hand;
-use crate::sharing::{offer, share};
+use crate::sharing::{Next, at_first, copy_for_child, go_on, offer};
 use bars::Bars;
 use board::Claim;
 use compact_types::{Branch, NoMemory};
@@ -17,19 +22,28 @@ use shape_graphs::{Backing, Measure};
 use std::alloc::Global;
 use std::sync::Wait;
 use steal_lanes::Stolen;
-use ticket_board::{TicketBoard, claim_with_proof};
+use ticket_board::{Pass, TicketBoard, claim_with_proof};
 
 /// The branch to go on with: the one that was kept, else the first of the hand's own lane, else the
 /// first that one try at each other lane gives.
-pub(crate) fn next_branch(hand: &mut Hand, kept: Option<Branch>) -> Option<Branch>
-    ensures { IsGoing hand.old hand.new }
+pub(crate) fn next_branch<P: Backing>(hand: &mut Hand, kept: Option<Next<P>>) -> Option<Next<P>>
+    ensures ready { (shape : AnyShape) → IfSome kept (IsReady (P.backs shape)) →
+        IfSome result (IsReady (P.backs shape)) }
+    ensures going { IsGoing hand.old hand.new }
 {
     match kept {
+        Some(next) => Some(next),
+        None => at_first(from_lanes(hand)),
+    }
+}
+
+/// The first branch of the hand's own lane, else the first that one try at each other lane gives.
+fn from_lanes(hand: &mut Hand) -> Option<Branch>
+    ensures { IsGoing hand.old hand.new }
+{
+    match hand.lane.take() {
         Some(branch) => Some(branch),
-        None => match hand.lane.take() {
-            Some(branch) => Some(branch),
-            None => steal(hand),
-        },
+        None => steal(hand),
     }
 }
 
@@ -66,15 +80,28 @@ pub(crate) fn advance<M: Measure, G: Gate, R: Wait>(
     board: &TicketBoard<M::Proof>,
     word: &LeastWord<M::Proof>,
     hand: &mut Hand,
-    branch: Branch,
+    next: Next<M::Proof>,
     gate: &G,
-) -> Result<Option<Branch>, NoMemory>
+) -> Result<Option<Next<M::Proof>>, NoMemory>
     requires at { IsHandAt board.now word.now hand.old }
     requires shape { AreFor bars.now board.now word.now }
+    requires ready { IsReady (M.Proof.backs bars.now) next }
+    ensures ready { IfOk result (λ kept. IfSome kept (IsReady (M.Proof.backs bars.now))) }
+    ensures taken { IsTakenUp hand.old.pass next.branch hand.new.pass }
     ensures going { OnOk result (IsGoing hand.old hand.new) }
     ensures stopped { OnErr result (IsStopped hand.old hand.new) }
 {
-    let (claim, start) = claim_with_proof(board, rt, alloc, measure, &mut hand.pass, &branch);
+    let Next { branch, start } = next;
+    let (claim, start) = claim_with_start(
+        rt,
+        alloc,
+        measure,
+        bars,
+        board,
+        &mut hand.pass,
+        &branch,
+        start,
+    );
     match claim {
         Claim::Yours => {}
         Claim::Taken | Claim::Stranger => return Ok(None),
@@ -91,8 +118,36 @@ pub(crate) fn advance<M: Measure, G: Gate, R: Wait>(
         stop as i64,
     )?;
     offer(word, &mut hand.seat, &solved);
+    let copy = copy_for_child(alloc, measure, &solved)?;
     let what = board.settle(rt, &mut hand.pass, branch.id, solved.verdict, solved.pair)?;
-    share(&mut hand.lane, branch, what)
+    go_on(&mut hand.lane, branch, what, copy)
+}
+
+/// Claims the branch. If it is this worker's, a solver may begin with the proof that comes with the
+/// claim: the one given, or else a copy of the one that the board keeps.
+fn claim_with_start<M: Measure, R: Wait>(
+    rt: &R,
+    alloc: Global,
+    measure: &M,
+    bars: &Bars,
+    board: &TicketBoard<M::Proof>,
+    pass: &mut Pass,
+    branch: &Branch,
+    start: Option<M::Proof>,
+) -> (Claim, Result<Option<M::Proof>, NoMemory>)
+    requires home { pass.old.home ≡ board.now }
+    requires shape { board.now.shape ≡ bars.now }
+    requires start { MayStart (M.Proof.backs bars.now) branch.now start }
+    ensures more { HasSeenMore pass.old pass.new }
+    ensures answer { IsClaimed pass.old branch.now result.0 pass.new }
+    ensures taken { IsTakenUp pass.old branch.now pass.new }
+    ensures start { result.0 ≡ Yours →
+        IfOk result.1 (MayStart (M.Proof.backs bars.now) branch.now) }
+{
+    match start {
+        Some(proof) => (board.claim(rt, pass, branch), Ok(Some(proof))),
+        None => claim_with_proof(board, rt, alloc, measure, pass, branch),
+    }
 }
 
 /// Whether no branch is open.

@@ -10,6 +10,9 @@ use std::test::Fail;
 
 mod board_table;
 mod examples;
+mod one_hand;
+mod several;
+mod ticket_table;
 
 /// The entry of a claim by the only worker.
 fn claimed(id: u64) -> Entry {

@@ -1,17 +1,24 @@
 -- What holds in the middle of a worker's life, and when several have ended.
-use Rattle.std.specs.Prelude.{◌≡◌, ◌⊎◌, ℕ, true, List, [], length, All}
+use Rattle.std.specs.Prelude.{◌≡◌, ◌⊎◌, ℕ, true, List, [], length, All, MatchOption, Option}
+use Rattle.compact_types.specs.declared.search.Branch.{Branch}
 use Rattle.board.specs.Histories.{open_count_of, state_of}
 use Rattle.least_word.specs.Seats.{Home as WordHome, SeatView}
 use Rattle.least_word.specs.Views.{after_halt}
-use Rattle.ticket_board.specs.Passes.{Home as BoardHome, PassView}
+use Rattle.ticket_board.specs.Passes.{Begins, Home as BoardHome, PassView}
 use Rattle.workers.specs.declared.desks.Desk.{Desk}
 use Rattle.workers.specs.declared.hands.Hand.{Hand}
-use Rattle.workers.specs.Hands.{HasWorked, IsHandAt, IsQuiet}
+use Rattle.workers.specs.Hands.{HasWorked, IsHandAt, IsQuiet, IsTakenUp}
 
 -- the worker goes on: it has put every branch that it had to put, and has called no halt
 pub record IsGoing (old new : Hand) : Type 0 where
   pub worked : HasWorked old new []
   pub quiet : IsQuiet old.seat.view new.seat.view
+
+-- the worker that was given this branch to begin with goes on: the branch, if its pass knew it, does
+-- not wait any longer
+pub record IsLiving (old : Hand) (start : Option Branch) (new : Hand) : Type 0 where
+  pub going : IsGoing old new
+  pub begun : MatchOption start (Unit {0}) (λ branch. IsTakenUp old.pass branch new.pass)
 
 -- memory was refused to the worker before it had put every branch that it had to put
 pub record IsStopped (old new : Hand) : Type 0 where
@@ -40,3 +47,7 @@ pub record HaveEnded (board : BoardHome) (word : WordHome) (pass : PassView) (se
   pub pass_at : pass.home ≡ board
   pub seat_at : seat.home ≡ word
   pub why : (open_count_of (state_of pass.seen) ≡ 0) ⊎ (seat.view.heard ≡ true)
+
+-- what each worker at the desks knew of the history is in what this pass has seen
+abbrev pub HaveAllMet : List Desk → PassView → Type 0
+HaveAllMet desks pass = All (λ desk. Begins desk.hand.pass.seen pass.seen) desks

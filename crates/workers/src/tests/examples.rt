@@ -1,6 +1,6 @@
 //! Boards of small drawings.
 
-ghost use Rattle.std.specs.Prelude.{◌≡◌, IfOk, IfSome};
+ghost use Rattle.std.specs.Prelude.{◌≡◌, All, IfOk, IfSome};
 ghost use Rattle.compact_types.specs.Drawings.{IsDrawing};
 ghost use Rattle.compact_types.specs.Magnitudes.{AreWithin};
 ghost use Rattle.compact_types.specs.declared.limits.TheConstants.{GREATEST_THOUSANDTHS};
@@ -8,9 +8,10 @@ ghost use Rattle.board.specs.Facts.{IsDrawnKey};
 
 use bars::{Bars, bars_of_points};
 use board::Board;
-use compact_types::{Key, NoMemory, Places, shift_to_zero};
-use shape_graphs::Measure;
+use compact_types::{Items, Key, NoMemory, Places, shift_to_zero};
+use shape_graphs::{Backing, Measure};
 use std::alloc::Global;
+use ticket_board::{Pass, TicketBoard};
 
 /// A new board of the drawing of these points and pieces, with two callers. Its key is that of the
 /// drawing, moved to zero. `None` where they make no drawing.
@@ -33,7 +34,7 @@ pub(crate) fn board_of<M: Measure>(
 }
 
 /// The key of the drawing, moved to zero.
-fn key_of<M: Measure>(measure: &M, bars: &Bars, mut places: Places) -> Key
+pub(crate) fn key_of<M: Measure>(measure: &M, bars: &Bars, mut places: Places) -> Key
     requires drawing { IsDrawing bars.now places }
     requires near { AreWithin GREATEST_THOUSANDTHS places }
     ensures { IsDrawnKey M.Proof.objective bars.now result }
@@ -42,4 +43,16 @@ fn key_of<M: Measure>(measure: &M, bars: &Bars, mut places: Places) -> Key
     let _sound = bars.shape();
     shift_to_zero(&mut places);
     Key { worth, places }
+}
+
+/// The last pass of the list, taken off it.
+pub(crate) fn last_pass<P: Backing>(
+    board: &TicketBoard<P>,
+    passes: &mut Items<Pass>,
+) -> Option<Pass>
+    requires { All (λ pass. pass.home ≡ board.now) passes.old }
+    ensures last { IfSome result (λ pass. pass.home ≡ board.now) }
+    ensures others { All (λ pass. pass.home ≡ board.now) passes.new }
+{
+    passes.pop()
 }

@@ -1,5 +1,4 @@
-use Rattle.std.proofs.Common.{Some, ap, refl, sym, ◌∙◌}
-use Rattle.std.specs.Prelude.{Option}
+use Rattle.std.proofs.Common.{ap, refl, sym, ◌∙◌}
 use Rattle.std.specs.Option.{option_copied_mut}
 use Rattle.workers.proofs.CrewLemmas.{same_by_set, same_desks_further}
 use Rattle.workers.proofs.crews.add_way.Goals as goal

@@ -1,4 +1,3 @@
-use Rattle.std.proofs.Common.{◌∙◌, sym}
 use Rattle.workers.proofs.CrewLemmas.{same_desks_further}
 use Rattle.workers.proofs.crews.join_lanes.Goals as goal
 

@@ -1,4 +1,4 @@
-use Rattle.std.proofs.Common.{◌≡◌, ◌<◌, length}
+use Rattle.std.proofs.Common.{◌≡◌, length}
 use Rattle.workers.specs.inner.Lives.{AreSameDesks}
 use Rattle.workers.proofs.crews.join_lanes.Given as goal
 

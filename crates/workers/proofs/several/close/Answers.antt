@@ -1,4 +1,4 @@
-use Rattle.std.proofs.Common.{ap, ◌∙◌, sym}
+use Rattle.std.proofs.Common.{ap, ◌∙◌}
 use Rattle.least_word.specs.Seats.{SeatView}
 use Rattle.workers.proofs.CrewLemmas.{all_settled_where_quiet}
 use Rattle.workers.proofs.several.close.Goals as goal
