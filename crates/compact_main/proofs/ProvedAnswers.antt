@@ -1,7 +1,7 @@
 -- A text that holds a drawing is proved, or is not for one first cause at most: the fault of its
 -- certificate's text, a vertex that does not stand on the grid, or what the certificate does not
 -- show.
-use Rattle.std.proofs.Common.{◌≡◌, ℕ, ◌≤◌, ℤ, pos, List, [], ◌∷◌, length, ◌⊎◌, inl, inr, sym, ap, ◌∙◌, subst, arith}
+use Rattle.std.proofs.Common.{◌≡◌, ℕ, ◌≤◌, pos, List, [], ◌∷◌, length, ◌⊎◌, inl, inr, sym, ap, ◌∙◌, subst, arith}
 use Rattle.std.specs.Prelude.{◌≤ℤ◌}
 use Rattle.std.proofs.lemmas.Int.{ints}
 use Rattle.compact_types.specs.declared.limits.TheConstants.{GREATEST_THOUSANDTHS, MOST_CHOICES}

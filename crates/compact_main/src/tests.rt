@@ -12,4 +12,5 @@ mod limits;
 mod pitched;
 mod refusals;
 mod rows;
+mod teams;
 mod texts;
