@@ -1,2 +1,3 @@
+pub mod VectorLemmas
 pub mod WordLemmas
 pub mod RowLemmas

@@ -1,8 +1,9 @@
 -- Rows of bits in one flat list of words of 64 bits, each row with the same number of words.
-use Rattle.std.specs.Prelude.{◌≡◌, ◌↔◌, ◌⊎◌, ℕ, ◌+◌, ◌*◌, ◌/◌, ◌%◌, ◌<◌, List, slice_index}
+use Rattle.std.specs.Prelude.{◌≡◌, ◌↔◌, ◌⊎◌, ℕ, ◌+◌, ◌*◌, ◌/◌, ◌%◌, ◌<◌, List, length, slice_index, bit_or}
 use Rattle.std.specs.Int.{bit_at}
 use Rattle.shape_graphs.specs.declared.graph.Arc.{Arc}
 use Rattle.shape_graphs.specs.Paths.{HasPath}
+use Rattle.reach_rows.specs.declared.bits.TheConstants.{LANES}
 
 -- bit c of row a
 abbrev pub bit_in : ℕ → List ℕ → ℕ → ℕ → ℕ
@@ -18,6 +19,11 @@ pub record IsTaken (words into from : ℕ) (old new : List ℕ) : Type 0 where
       bit_in words new a c ≡ bit_in words old a c
   pub take : (c : ℕ) → c < 64 * words →
       IsSet words new into c ↔ (IsSet words old into c ⊎ (IsSet words old from c ⊎ (c ≡ from)))
+
+-- a vector of words has the bits of those from a on, and of those from b on
+pub record IsJoined (words : List ℕ) (a b : ℕ) (vector : List ℕ) : Type 0 where
+  pub long : length vector ≡ LANES
+  pub lanes : (k : ℕ) → k < LANES → slice_index vector k ≡ bit_or (slice_index words (a + k)) (slice_index words (b + k))
 
 -- Bit c of row x is set, after an arc from a to b was added, exactly where it was before, or x is
 -- a or reaches it, and c is b or is reached from it.

@@ -31,38 +31,60 @@ fn push_arc(arcs: &mut Items<Arc>, from: u32, to: u32) -> Result<(), Fail> {
     Ok(())
 }
 
-/// The graph with an arc from each of the nodes to the next.
-fn chain(alloc: Global, nodes: u32) -> Result<DiffGraph, Fail>
+/// The graph with an arc from each of the nodes to the next, but none to this one.
+fn chains(alloc: Global, nodes: u32, second: u32) -> Result<DiffGraph, Fail>
     ensures { IfOk result (λ graph. graph.nodes ≡ nodes) }
 {
     let mut arcs = Items::new(alloc);
     for node in 1..nodes {
-        push_arc(&mut arcs, node - 1, node)?;
+        if node != second {
+            push_arc(&mut arcs, node - 1, node)?;
+        }
     }
     Ok(DiffGraph::of(nodes, arcs).ok_or("no graph")?)
 }
 
-/// Whether a chain of so many nodes is reached forward alone, and everywhere once it is closed.
-fn chain_holds(alloc: Global, nodes: u32) -> Result<bool, Fail>
+/// Whether each node reaches exactly those behind it, of the two chains or of one from 0 on.
+fn are_chains(rows: &ReachRows, nodes: u32, second: u32) -> bool
+    requires { rows.now.nodes ≡ nodes }
+{
+    for a in 0..nodes {
+        for b in 0..nodes {
+            let is_behind = a < b && (b < second || second <= a);
+            if rows.reaches(a, b) != is_behind {
+                return false;
+            }
+        }
+    }
+    true
+}
+
+/// Whether two chains of half the nodes each are two, are one once they are joined, and every node
+/// is reached from either end once that is closed.
+fn chains_hold(alloc: Global, nodes: u32) -> Result<bool, Fail>
     requires { 0 < nodes }
 {
-    let last = nodes - 1;
-    let mut rows = ReachRows::of(alloc, &chain(alloc, nodes)?)
+    let (second, last) = (nodes / 2, nodes - 1);
+    let mut rows = ReachRows::of(alloc, &chains(alloc, nodes, second)?)
         .ok()
         .ok_or("memory")?;
-    let forward = rows.reaches(0, last) == (nodes > 1) && !rows.reaches(last, 0);
-    let apart = !rows.reaches(0, 0) && !rows.reaches(last, last);
+    let apart = are_chains(&rows, nodes, second);
+    if second > 0 {
+        rows.add_arc(second - 1, second);
+    }
+    let joined = are_chains(&rows, nodes, 0);
     rows.add_arc(last, 0);
     let closed = rows.reaches(0, 0) && rows.reaches(last, last) && rows.reaches(last, 0);
-    Ok(forward && apart && closed)
+    Ok(apart && joined && closed)
 }
 
 #[test]
 fn chains_of_any_length(rt: HostRuntime) -> Result<(), Fail> {
     let alloc = rt.alloc();
-    assert!(rt; ReachRows::of(alloc, &chain(alloc, 0)?).is_ok());
-    for nodes in [1, 63, 64, 65, 127, 1_000] {
-        assert!(rt; chain_holds(alloc, nodes)?);
+    assert!(rt; ReachRows::of(alloc, &chains(alloc, 0, 0)?).is_ok());
+    // the last two have rows of two vectors and two words, and of four vectors
+    for nodes in [1, 63, 64, 65, 127, 577, 1_000] {
+        assert!(rt; chains_hold(alloc, nodes)?);
     }
     Ok(())
 }
