@@ -12,7 +12,7 @@ use crate::segments::{Bars, bars_of};
 use compact_types::{
     GREATEST_THOUSANDTHS, MOST_PIECES, MOST_VERTICES, NoMemory, Places, Plan, Refusal, Shape,
 };
-use drawing_check::check;
+use drawing_check::check_alone;
 use std::alloc::Global;
 
 /// The segments of the drawing with these points and with a piece for each pair of ends, and its
@@ -52,7 +52,7 @@ fn shape_at(alloc: Global, plan: &Plan, places: &Places) -> Result<Option<Shape>
         ((shape : AnyShape) → IsShapeOf plan.now places.now shape → ⊥)
         (IsShapeOf plan.now places.now)) }
 {
-    match check(alloc, plan, places) {
+    match check_alone(alloc, plan, places) {
         Ok(shape) => Ok(Some(shape)),
         Err(Refusal::Fault(_)) => Ok(None),
         Err(Refusal::NoMemory) => Err(NoMemory),

@@ -19,10 +19,12 @@ use cert_text::{CertTree, append_cert};
 use compact_types::{Flows, Items, NoMemory, Places, Refusal};
 use gml_print::{print_tree, with_places};
 use std::alloc::Global;
+use std::thread::Threads;
 use workers::Best;
 
 /// The text's drawing with the best places of its shape, in this form.
-pub(crate) fn draw<X: Search>(
+pub(crate) fn draw<X: Search, R: Threads + Sync>(
+    rt: &R,
     alloc: Global,
     search: &X,
     pitch: u32,
@@ -35,7 +37,7 @@ pub(crate) fn draw<X: Search>(
     ensures output { IfOk result (Output (Command.Draw pitch form) bytes.now) }
     ensures fault { IfFault result (FirstFault (Command.Draw pitch form) bytes.now) }
 {
-    let drawing = input_of(alloc, Command::Draw { pitch, form }, bytes)?;
+    let drawing = input_of(rt, alloc, Command::Draw { pitch, form }, bytes)?;
     let best = best_of(alloc, search, &drawing)?;
     Ok(write(alloc, drawing, &best, pitch, form)?)
 }

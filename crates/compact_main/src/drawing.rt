@@ -16,6 +16,7 @@ use drawing_check::check;
 use drawing_read::{Reading, read_drawing};
 use gml_text::{Tree, read_tree};
 use std::alloc::Global;
+use std::thread::Threads;
 
 /// The drawing that a text holds: its tree, what is read of it, and its shape, as the tables of its
 /// segments. Contracts see `bars` as the shape.
@@ -27,7 +28,8 @@ pub struct Drawing {
 }
 
 /// The drawing that a command is given, or why it refuses the text.
-pub(crate) fn input_of(
+pub(crate) fn input_of<R: Threads + Sync>(
+    rt: &R,
     alloc: Global,
     command: Command,
     bytes: &[u8],
@@ -37,7 +39,7 @@ pub(crate) fn input_of(
     ensures input { IfOk result (IsInput command bytes.now) }
     ensures fault { IfFault result (FirstFault command bytes.now) }
 {
-    match drawing_of(alloc, bytes) {
+    match drawing_of(rt, alloc, bytes) {
         Ok(drawing) => Ok(drawing),
         Err(refusal) => Err(refusal.map(Failure::Refused)),
     }
@@ -45,7 +47,11 @@ pub(crate) fn input_of(
 
 /// The drawing that the text holds, or the first fault of a text that holds none.
 #[tactic(auto, using(drawing_read::proofs::Laws::readable_legible))]
-fn drawing_of(alloc: Global, bytes: &[u8]) -> Result<Drawing, Refusal<Why>>
+fn drawing_of<R: Threads + Sync>(
+    rt: &R,
+    alloc: Global,
+    bytes: &[u8],
+) -> Result<Drawing, Refusal<Why>>
     requires { length bytes.now ≤ MOST_BYTES }
     ensures { Decides result (HoldsDrawing bytes.now) (FirstTextFault bytes.now) }
 {
@@ -57,7 +63,7 @@ fn drawing_of(alloc: Global, bytes: &[u8]) -> Result<Drawing, Refusal<Why>>
         Ok(reading) => reading,
         Err(refusal) => return Err(refusal.map(Why::Draw)),
     };
-    let shape = match check(alloc, &reading.plan, &reading.places) {
+    let shape = match check(rt, alloc, &reading.plan, &reading.places) {
         Ok(shape) => shape,
         Err(refusal) => return Err(refusal.map(Why::Shape)),
     };

@@ -18,10 +18,12 @@ use crate::verify::verify;
 use compact_types::{Items, NoMemory, Refusal};
 use itoa::Buffer;
 use std::alloc::Global;
+use std::thread::Threads;
 
 /// What the command writes for a text, or why it has no answer for it. Best places are found by
 /// this search.
-pub(crate) fn answer<X: Search>(
+pub(crate) fn answer<X: Search, R: Threads + Sync>(
+    rt: &R,
     alloc: Global,
     search: &X,
     command: Command,
@@ -34,21 +36,25 @@ pub(crate) fn answer<X: Search>(
     ensures fault { IfFault result (FirstFault command bytes.now) }
 {
     match command {
-        Command::Draw { pitch, form } => draw(alloc, search, pitch, form, bytes),
-        Command::Check => count(alloc, bytes),
-        Command::Measure => measure(alloc, bytes),
-        Command::Verify => verify(alloc, bytes),
+        Command::Draw { pitch, form } => draw(rt, alloc, search, pitch, form, bytes),
+        Command::Check => count(rt, alloc, bytes),
+        Command::Measure => measure(rt, alloc, bytes),
+        Command::Verify => verify(rt, alloc, bytes),
         Command::Sample { number } => Ok(draw_sample(alloc, search, number)?),
     }
 }
 
 /// How many vertices and pieces the text's drawing has.
-fn count(alloc: Global, bytes: &[u8]) -> Result<Items<u8>, Refusal<Failure>>
+fn count<R: Threads + Sync>(
+    rt: &R,
+    alloc: Global,
+    bytes: &[u8],
+) -> Result<Items<u8>, Refusal<Failure>>
     requires { length bytes.now ≤ limit_of Command.Check }
     ensures output { IfOk result (Output Command.Check bytes.now) }
     ensures fault { IfFault result (FirstFault Command.Check bytes.now) }
 {
-    let drawing = input_of(alloc, Command::Check, bytes)?;
+    let drawing = input_of(rt, alloc, Command::Check, bytes)?;
     Ok(count_line(alloc, &drawing)?)
 }
 
@@ -67,12 +73,16 @@ fn count_line(alloc: Global, drawing: &Drawing) -> Result<Items<u8>, NoMemory>
 }
 
 /// The numbers of the text's drawing.
-fn measure(alloc: Global, bytes: &[u8]) -> Result<Items<u8>, Refusal<Failure>>
+fn measure<R: Threads + Sync>(
+    rt: &R,
+    alloc: Global,
+    bytes: &[u8],
+) -> Result<Items<u8>, Refusal<Failure>>
     requires { length bytes.now ≤ limit_of Command.Measure }
     ensures output { IfOk result (Output Command.Measure bytes.now) }
     ensures fault { IfFault result (FirstFault Command.Measure bytes.now) }
 {
-    let drawing = input_of(alloc, Command::Measure, bytes)?;
+    let drawing = input_of(rt, alloc, Command::Measure, bytes)?;
     let summary = summary_of(alloc, &drawing)?;
     Ok(summary_text(alloc, summary)?)
 }

@@ -34,7 +34,8 @@ use workers::{Gate, search};
 ///
 /// All memory is taken before the first byte is written. If the status is not Done, `notes` gets
 /// one line that says why, made without memory; a fault of `notes` changes no status.
-pub fn run_alone<S: Source, K: Sink, N: Sink>(
+pub fn run_alone<S: Source, K: Sink, N: Sink, R: Threads + Sync>(
+    rt: &R,
     alloc: Global,
     words: &[String],
     source: &mut S,
@@ -49,7 +50,7 @@ pub fn run_alone<S: Source, K: Sink, N: Sink>(
         N.held N.faults notes.old notes.new
         result }
 {
-    run_with(alloc, &Alone, words, source, out, notes)
+    run_with(rt, alloc, &Alone, words, source, out, notes)
 }
 
 /// Does what `run_alone` does, with as many workers as the words ask for. With one it is
@@ -83,15 +84,16 @@ pub fn run<S: Source, K: Sink, N: Sink, G: Gate, R: Threads + Wait + Sync>(
                     × AreWithin GREATEST_THOUSANDTHS places.now }
                 ensures { IsSearched bars.now result }
             { search(rt, alloc, &TotalLength, bars, places, workers, gate) };
-            run_with(alloc, &SearchBy { find }, words, source, out, notes)
+            run_with(rt, alloc, &SearchBy { find }, words, source, out, notes)
         }
-        _ => run_alone(alloc, words, source, out, notes),
+        _ => run_alone(rt, alloc, words, source, out, notes),
     }
 }
 
 /// Does what the words ask for, as `run_alone` does, with this search.
 #[tactic(auto, using(crate::proofs::CommandWords::number_asked))]
-fn run_with<X: Search, S: Source, K: Sink, N: Sink>(
+fn run_with<X: Search, S: Source, K: Sink, N: Sink, R: Threads + Sync>(
+    rt: &R,
     alloc: Global,
     search: &X,
     words: &[String],
@@ -113,7 +115,7 @@ fn run_with<X: Search, S: Source, K: Sink, N: Sink>(
         return Status::BadWords;
     };
     let command = request.command;
-    let status = run_command(alloc, search, command, source, out);
+    let status = run_command(rt, alloc, search, command, source, out);
     if status != Status::Done {
         notify(notes, command.limit(), status);
     }
@@ -121,7 +123,8 @@ fn run_with<X: Search, S: Source, K: Sink, N: Sink>(
 }
 
 /// Does what the command asks for.
-fn run_command<X: Search, S: Source, K: Sink>(
+fn run_command<X: Search, S: Source, K: Sink, R: Threads + Sync>(
+    rt: &R,
     alloc: Global,
     search: &X,
     command: Command,
@@ -141,7 +144,7 @@ fn run_command<X: Search, S: Source, K: Sink>(
         Err(ReadEnd::TooLong) => return Status::Refused(Why::TooLong),
         Err(ReadEnd::NoMemory) => return Status::NoMemory,
     };
-    match answer(alloc, search, command, bytes.as_slice()) {
+    match answer(rt, alloc, search, command, bytes.as_slice()) {
         Ok(written) => write_output(out, written.as_slice()),
         Err(Refusal::Fault(failure)) => failure.status(),
         Err(Refusal::NoMemory) => Status::NoMemory,

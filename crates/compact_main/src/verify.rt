@@ -23,15 +23,20 @@ use itoa::Buffer;
 use potentials::TotalLength;
 use shape_graphs::Measure;
 use std::alloc::Global;
+use std::thread::Threads;
 
 /// That the text is proved, and the length of its drawing; or why it is not proved. It trusts no
 /// search: it goes by the drawing and the certificate alone.
-pub(crate) fn verify(alloc: Global, bytes: &[u8]) -> Result<Items<u8>, Refusal<Failure>>
+pub(crate) fn verify<R: Threads + Sync>(
+    rt: &R,
+    alloc: Global,
+    bytes: &[u8],
+) -> Result<Items<u8>, Refusal<Failure>>
     requires { length bytes.now ≤ limit_of Command.Verify }
     ensures output { IfOk result (Output Command.Verify bytes.now) }
     ensures fault { IfFault result (FirstFault Command.Verify bytes.now) }
 {
-    let drawing = input_of(alloc, Command::Verify, bytes)?;
+    let drawing = input_of(rt, alloc, Command::Verify, bytes)?;
     match proved_length(alloc, bytes, drawing) {
         Ok(length) => Ok(proved_line(alloc, length)?),
         Err(refusal) => Err(refusal.map(Failure::NotProved)),

@@ -1,5 +1,6 @@
 pub mod SpanLemmas
 pub mod MeetingLemmas
+pub mod SeatLemmas
 pub mod WayLemmas
 pub mod GroupLemmas
 pub mod ShapeLemmas

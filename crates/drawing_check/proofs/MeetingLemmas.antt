@@ -18,8 +18,8 @@ use Rattle.drawing_check.specs.declared.meeting.Meeting.{Meeting}
 use Rattle.compact_types.specs.Orders.{IsPairBefore}
 use Rattle.compact_types.proofs.Laws.{drawing_of_crossing_free}
 use Rattle.drawing_check.specs.Meetings.{Meets, IsFirstMeeting}
-use Rattle.drawing_check.specs.inner.Partners.{IsApart, IsFirstPartner}
-use Rattle.drawing_check.specs.inner.Collisions.{IsOn, IsCovered, IsAllowed, Collides}
+use Rattle.drawing_check.specs.inner.Partners.{IsApart, AreApart, IsFirstPartner}
+use Rattle.drawing_check.specs.inner.Collisions.{IsOn, IsCovered, IsAllowed, SharesAllowed, Collides}
 
 module _ (points : List Point) (p q : Covered) (shared : Extent)
     (first : IsCovered points p) (second : IsCovered points q)
@@ -75,10 +75,6 @@ least_meeting plan places i j points p q z at_places is_first is_second least =
     let both = subst (λ (piece : Piece). IsLeastPoint (Collides places.xy (piece_at plan.pieces i) piece) z) is_second at_first in
     (meets_from_collision plan places i j z both.0, λ w meets before. both.1 w (collision_from_meets plan places i j w meets) before)
 
--- two pieces that share nothing that they may not share
-abbrev pub SharesAllowed : List Point → Piece → Piece → Type 0
-SharesAllowed points p q = (z : Point) → IsOn points p z → IsOn points q z → IsAllowed points p q z
-
 pub apart_from_pieces : (plan : Plan) (places : Places) (i j : ℕ) (points : List Point) (p q : Piece) → points ≡ places.xy → p ≡ piece_at plan.pieces i → q ≡ piece_at plan.pieces j →
     SharesAllowed points p q → IsApart plan places i j
 apart_from_pieces plan places i j points p q at_places is_first is_second shares =
@@ -90,10 +86,6 @@ apart_from_pieces plan places i j points p q at_places is_first is_second shares
 -- two pieces apart have no meeting
 pub no_meeting : (plan : Plan) (places : Places) (i j : ℕ) → IsApart plan places i j → (w : Point) → Meets plan places i j w → ⊥
 no_meeting plan places i j apart w meets = meets.forbidden (apart w meets.on_first meets.on_second)
-
--- each of the first n pieces is apart from all that follow it
-pub record AreApart (plan : Plan) (places : Places) (n : ℕ) : Type 0 where
-  pub apart : (p q : ℕ) → p < n → p < q → q < length plan.pieces → IsApart plan places p q
 
 -- the first partner of the first piece that has one is the first meeting
 pub first_from_partner : (plan : Plan) (places : Places) (n p : ℕ) (meeting : Meeting) → p ≡ n → IsFirstPartner plan places p meeting →

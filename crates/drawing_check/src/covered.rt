@@ -3,7 +3,7 @@
 ghost use Rattle.std.specs.Prelude.{◌≡◌, ◌<◌, length, MatchOption, ◌↔◌, Some};
 ghost use Rattle.compact_types.specs.declared.places.Point.{Point as AnyPoint};
 ghost use Rattle.drawing_check.specs.Points.{IsLeastPoint};
-ghost use Rattle.drawing_check.specs.inner.Collisions.{IsOn, IsCovered, IsAllowed, Collides};
+ghost use Rattle.drawing_check.specs.inner.Collisions.{IsCovered, IsAllowed, SharesAllowed, Collides};
 
 use crate::common_end::only_common_end;
 use crate::span::{Extent, common_extent, extent_between, is_empty, least_point};
@@ -44,8 +44,7 @@ pub(crate) fn collision(points: &[Point], p: Covered, q: Covered) -> Option<Poin
     requires first { IsCovered points.now p }
     requires second { IsCovered points.now q }
     ensures { MatchOption result
-        ((z : AnyPoint) → IsOn points.now p.piece z → IsOn points.now q.piece z →
-        IsAllowed points.now p.piece q.piece z)
+        (SharesAllowed points.now p.piece q.piece)
         (IsLeastPoint (Collides points.now p.piece q.piece)) }
 {
     let shared = common_extent(p.extent, q.extent);

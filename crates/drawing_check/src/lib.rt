@@ -14,9 +14,11 @@ mod drawing;
 mod fault;
 mod joined;
 mod meeting;
+mod seats;
 mod span;
+mod sweep;
 mod ways;
 
-pub use checking::{check, one_shape_or_fault};
+pub use checking::{check, check_alone, one_shape_or_fault};
 pub use drawing::is_drawing;
 pub use fault::ShapeFault;

@@ -3,7 +3,7 @@
 ghost use Rattle.std.specs.Prelude.{◌≡◌, ℕ, ◌<◌, length, MatchOption};
 ghost use Rattle.drawing_check.specs.Conditions.{CanCheck};
 ghost use Rattle.drawing_check.specs.Meetings.{IsFirstMeeting};
-ghost use Rattle.drawing_check.specs.inner.Partners.{IsApart, IsFirstPartner};
+ghost use Rattle.drawing_check.specs.inner.Partners.{AreApart, IsApart, IsFirstPartner};
 ghost use Rattle.drawing_check.specs.declared.fault.ShapeFault.TheVariants as shape_fault;
 
 use crate::covered::{collision, cover};
@@ -33,15 +33,17 @@ impl From<Meeting> for ShapeFault {
 }
 
 /// The first two pieces, by the number of the first and then of the second, that share a point
-/// which they may not share, and the least such point, by x and then y.
+/// which they may not share, and the least such point, by x and then y. It looks from piece `from`
+/// on: each one before is known to be apart from all that follow it.
 #[tactic(auto, using(crate::proofs::MeetingLemmas::first_of_meetings))]
-pub(crate) fn first_meeting(plan: &Plan, places: &Places) -> Option<Meeting>
-    requires { CanCheck plan.now places.now }
+pub(crate) fn first_meeting(plan: &Plan, places: &Places, from: usize) -> Option<Meeting>
+    requires can_check { CanCheck plan.now places.now }
+    requires apart { AreApart plan.now places.now from }
     ensures { MatchOption result
         ((p q : ℕ) → p < q → q < length plan.now.pieces → IsApart plan.now places.now p q)
         (λ m. IsFirstMeeting plan.now places.now m.first m.second m.point) }
 {
-    for first in 0..plan.pieces.len() {
+    for first in from..plan.pieces.len() {
         if let Some(meeting) = first_partner(plan, places, first) {
             return Some(meeting);
         }

@@ -2,11 +2,12 @@
 
 ghost use Rattle.std.specs.Prelude.{◌≡◌, ◌↔◌, ℤ, MatchBool, MatchOption, Some, ◌≤ℤ◌};
 ghost use Rattle.compact_types.specs.declared.places.Point.{Point as AnyPoint};
+ghost use Rattle.compact_types.specs.Lookups.{along};
 ghost use Rattle.compact_types.specs.Segments.{IsBetween, OnSegment};
 ghost use Rattle.drawing_check.specs.inner.Spans.{IsIn, IsInside, IsInsideBut};
 ghost use Rattle.drawing_check.specs.Points.{IsLeastPoint};
 
-use compact_types::Point;
+use compact_types::{Axis, Point};
 
 /// The numbers from `low` to `high`; none where `high` is less.
 #[derive(Clone, Copy, Debug)]
@@ -30,6 +31,16 @@ fn span_between(a: i64, b: i64) -> Span
         Span { low: a, high: b }
     } else {
         Span { low: b, high: a }
+    }
+}
+
+/// The span of the extent along the axis.
+pub(crate) fn span_along(axis: Axis, extent: Extent) -> Span
+    ensures { (z : AnyPoint) → IsInside extent z → IsIn result (along axis z) }
+{
+    match axis {
+        Axis::X => extent.x,
+        Axis::Y => extent.y,
     }
 }
 

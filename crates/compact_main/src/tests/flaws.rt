@@ -11,6 +11,7 @@ use drawing_check::ShapeFault;
 use std::alloc::Global;
 use std::process::Abort;
 use std::test::Fail;
+use std::thread::Threads;
 
 /// A drawing and the lines behind it that do not prove it, and why.
 #[derive(Clone, Copy)]
@@ -38,7 +39,11 @@ fn slanted_when_verified<'a>(text: &'a [u8], piece: u32, line: &'a [u8]) -> Row<
     }
 }
 
-fn assert_flaw(rt: &impl Abort, alloc: Global, flaw: &Flaw) -> Result<(), Fail> {
+fn assert_flaw<R: Abort + Threads + Sync>(
+    rt: &R,
+    alloc: Global,
+    flaw: &Flaw,
+) -> Result<(), Fail> {
     let text = joined(alloc, flaw.drawing, flaw.certificate)?;
     let row = not_proved(flaw.name, text.as_slice(), flaw.unproved, flaw.line);
     assert_run(rt, alloc, &row)

@@ -9,6 +9,7 @@ use gml_text::{GmlFault, GmlKind, NumberFault};
 use std::alloc::Global;
 use std::process::Abort;
 use std::test::Fail;
+use std::thread::Threads;
 
 /// A run of `draw --plain` on a text that has no tree.
 fn no_gml<'a>(name: &'a str, text: &'a [u8], kind: GmlKind, at: u32, line: &'a [u8]) -> Row<'a> {
@@ -47,7 +48,11 @@ fn refuses_what_is_no_gml(rt: HostRuntime) -> Result<(), Fail> {
 }
 
 /// Two runs on a text that holds no drawing: of `draw --plain` and of `check`.
-fn assert_refused(rt: &impl Abort, alloc: Global, row: &Row) -> Result<(), Fail> {
+fn assert_refused<R: Abort + Threads + Sync>(
+    rt: &R,
+    alloc: Global,
+    row: &Row,
+) -> Result<(), Fail> {
     assert_run(rt, alloc, row)?;
     assert_run(
         rt,

@@ -7,6 +7,7 @@ use io_ends::{MemorySink, MemorySource, PlainSource};
 use std::alloc::{AllocError, Global};
 use std::process::Abort;
 use std::test::Fail;
+use std::thread::Threads;
 
 /// A run on a text that comes in pieces of 16 bytes, where the reads of `failing` fail, into a sink
 /// with so much room.
@@ -107,14 +108,18 @@ pub(super) fn sink_of(alloc: Global, room: usize, failing: &[u64]) -> Result<Mem
     MemorySink::new(alloc, room, 7, failing).map_err(|_| "room".into())
 }
 
-pub(super) fn assert_run(rt: &impl Abort, alloc: Global, row: &Row) -> Result<(), Fail> {
+pub(super) fn assert_run<R: Abort + Threads + Sync>(
+    rt: &R,
+    alloc: Global,
+    row: &Row,
+) -> Result<(), Fail> {
     let (name, command) = (row.name, command_of(row));
     let words = words_of(alloc, row.words)?;
     let text = Vec::from_slice(alloc, row.text)?;
     let mut source = MemorySource::new(text, 16, Vec::from_slice(alloc, row.failing)?);
     let mut out = sink_of(alloc, row.room, &[])?;
     let mut notes = sink_of(alloc, 100, &[])?;
-    let status = run_alone(alloc, words.as_slice(), &mut source, &mut out, &mut notes);
+    let status = run_alone(rt, alloc, words.as_slice(), &mut source, &mut out, &mut notes);
     assert_eq!(rt; status, row.status, "{name}, {command}");
     assert_eq!(rt;
         out.bytes(),
@@ -130,13 +135,17 @@ pub(super) fn assert_run(rt: &impl Abort, alloc: Global, row: &Row) -> Result<()
 }
 
 /// A run on a long text.
-pub(super) fn assert_long(rt: &impl Abort, alloc: Global, row: &Row) -> Result<(), Fail> {
+pub(super) fn assert_long<R: Abort + Threads + Sync>(
+    rt: &R,
+    alloc: Global,
+    row: &Row,
+) -> Result<(), Fail> {
     let (name, command) = (row.name, command_of(row));
     let words = words_of(alloc, row.words)?;
     let mut source = PlainSource::new(row.text);
     let mut out = sink_of(alloc, row.room, &[])?;
     let mut notes = sink_of(alloc, 100, &[])?;
-    let status = run_alone(alloc, words.as_slice(), &mut source, &mut out, &mut notes);
+    let status = run_alone(rt, alloc, words.as_slice(), &mut source, &mut out, &mut notes);
     assert_eq!(rt; status, row.status, "{name}, {command}");
     assert!(rt;
         out.bytes() == row.written,

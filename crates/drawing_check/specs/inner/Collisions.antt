@@ -21,6 +21,10 @@ abbrev pub IsAllowed : List Point → Piece → Piece → Point → Type 0
 IsAllowed points p q z =
     ((vertex : ℕ) × IsEnd vertex p × IsEnd vertex q × (place points vertex ≡ z)) × (HaveSameEnds p q → ⊥)
 
+-- the pieces share no point but one that they may share
+abbrev pub SharesAllowed : List Point → Piece → Piece → Type 0
+SharesAllowed points p q = (z : Point) → IsOn points p z → IsOn points q z → IsAllowed points p q z
+
 -- the point z lies on both pieces, which may not share it
 abbrev pub Collides : List Point → Piece → Piece → Point → Type 0
 Collides points p q z = IsOn points p z × IsOn points q z × (IsAllowed points p q z → ⊥)

@@ -1,20 +1,25 @@
 //! Plans and places, and what the check answers.
 
-use super::check;
+ghost use Rattle.std.specs.Prelude.{IfOk, IfSome};
+ghost use Rattle.drawing_check.specs.Conditions.{CanCheck};
+
+use super::{check, check_alone};
 use crate::drawing::is_drawing;
 use crate::fault::ShapeFault;
 use compact_types::{MOST_PIECES, NoMemory, Places, Plan, Refusal};
 use std::alloc::Global;
 use std::process::Abort;
 use std::test::Fail;
+use std::thread::Threads;
 
-/// Whether the answer is a shape that has these places as a drawing, or else the fault; `None`
-/// where nothing can be checked.
-fn answer(
+/// The plan with these ends and the places; `None` where nothing can be checked.
+fn drawn(
     alloc: Global,
     points: &[(i32, i32)],
     ends: &[(u32, u32)],
-) -> Result<Option<Result<(), ShapeFault>>, NoMemory> {
+) -> Result<Option<(Plan, Places)>, NoMemory>
+    ensures { IfOk result (λ made. IfSome made (λ drawn. CanCheck drawn.0 drawn.1)) }
+{
     let Ok(vertices) = u32::try_from(points.len()) else {
         return Ok(None);
     };
@@ -25,7 +30,21 @@ fn answer(
     if vertices == 0 || places.xy.len() != vertices as usize || plan.pieces.len() > MOST_PIECES {
         return Ok(None);
     }
-    match check(alloc, &plan, &places) {
+    Ok(Some((plan, places)))
+}
+
+/// Whether the answer is a shape that has these places as a drawing, or else the fault; `None`
+/// where nothing can be checked.
+fn answer<R: Threads + Sync>(
+    rt: &R,
+    alloc: Global,
+    points: &[(i32, i32)],
+    ends: &[(u32, u32)],
+) -> Result<Option<Result<(), ShapeFault>>, NoMemory> {
+    let Some((plan, places)) = drawn(alloc, points, ends)? else {
+        return Ok(None);
+    };
+    match check(rt, alloc, &plan, &places) {
         Ok(shape) if is_drawing(&shape, &places) => Ok(Some(Ok(()))),
         Ok(_) => Ok(None),
         Err(Refusal::Fault(fault)) => Ok(Some(Err(fault))),
@@ -33,11 +52,32 @@ fn answer(
     }
 }
 
+/// The fault that is found without threads.
+fn fault_alone(
+    alloc: Global,
+    points: &[(i32, i32)],
+    ends: &[(u32, u32)],
+) -> Result<Option<ShapeFault>, NoMemory> {
+    let Some((plan, places)) = drawn(alloc, points, ends)? else {
+        return Ok(None);
+    };
+    match check_alone(alloc, &plan, &places) {
+        Ok(_) => Ok(None),
+        Err(Refusal::Fault(fault)) => Ok(Some(fault)),
+        Err(Refusal::NoMemory) => Err(NoMemory),
+    }
+}
+
 type Case<'a> = (&'a [(i32, i32)], &'a [(u32, u32)], Result<(), ShapeFault>);
 
-fn assert_answers(rt: &impl Abort, alloc: Global, cases: &[Case]) -> Result<(), Fail> {
+fn assert_answers<R: Abort + Threads + Sync>(
+    rt: &R,
+    alloc: Global,
+    cases: &[Case],
+) -> Result<(), Fail> {
     for (points, ends, want) in cases {
-        assert_eq!(rt; answer(alloc, points, ends)?, Some(*want));
+        assert_eq!(rt; answer(rt, alloc, points, ends)?, Some(*want));
+        assert_eq!(rt; fault_alone(alloc, points, ends)?, want.err());
     }
     Ok(())
 }
@@ -88,6 +128,63 @@ fn pieces_that_meet(rt: HostRuntime) -> Result<(), Fail> {
         ),
     ];
     assert_answers(&rt, rt.alloc(), &cases)
+}
+
+/// A row that runs below an eastern and a western column, which are joined above.
+const RAKE: [(i32, i32); 7] = [(0, 0), (9, 0), (8, -2), (8, 2), (3, -2), (3, 2), (9, 2)];
+
+#[test]
+fn first_pair_and_least_point(rt: HostRuntime) -> Result<(), Fail> {
+    let ring = [(0, 0), (9, 0), (4, 0), (12, 0), (12, 5), (0, 5)];
+    let cases: [Case; 5] = [
+        // The row meets both columns: of the lesser number, the eastern one, it is told.
+        (
+            &RAKE,
+            &[(2, 3), (4, 5), (5, 3), (0, 1), (1, 6), (6, 3)],
+            meeting(0, 3, 8, 0),
+        ),
+        (
+            &RAKE,
+            &[(0, 1), (2, 3), (4, 5), (5, 3), (1, 6), (6, 3)],
+            meeting(0, 1, 8, 0),
+        ),
+        // Many points in common: the least by x, and by y, where no end or one may be shared.
+        (
+            &ring,
+            &[(0, 1), (2, 3), (3, 4), (4, 5), (5, 0)],
+            meeting(0, 1, 4, 0),
+        ),
+        (
+            &[(0, 0), (9, 0), (4, 0)],
+            &[(0, 1), (1, 2)],
+            meeting(0, 1, 4, 0),
+        ),
+        (
+            &[(0, 9), (0, 0), (0, 4)],
+            &[(0, 1), (1, 2)],
+            meeting(0, 1, 0, 1),
+        ),
+    ];
+    assert_answers(&rt, rt.alloc(), &cases)
+}
+
+#[test]
+fn only_the_last_two_of_many_meet(rt: HostRuntime) -> Result<(), Fail> {
+    let alloc = rt.alloc();
+    let mut points = Vec::new(alloc);
+    let mut ends = Vec::new(alloc);
+    // A row of 1,200 vertices, then a piece up and one that comes back on it.
+    for x in 0..1_200i32 {
+        points.push((x, 0))?;
+    }
+    points.push((1_199, 3))?;
+    points.push((1_199, 1))?;
+    for vertex in 0..1_201u32 {
+        ends.push((vertex, vertex + 1))?;
+    }
+    let found = answer(&rt, alloc, points.as_slice(), ends.as_slice())?;
+    assert_eq!(rt; found, Some(meeting(1_199, 1_200, 1_199, 1)));
+    Ok(())
 }
 
 #[test]

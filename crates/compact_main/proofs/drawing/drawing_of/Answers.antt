@@ -10,11 +10,11 @@ use Rattle.compact_main.proofs.Refusals.{told}
 use Rattle.compact_main.proofs.TextAnswers.{can_check, text_answer}
 use Rattle.compact_main.proofs.drawing.drawing_of.Goals as goal
 
-pub check-requires : goal.check-requires
-check-requires c = can_check c.in-Ok-read_drawing.reading c.in-Ok-read_drawing.ensures.limits
+pub check-requires-after_bounds : goal.check-requires-after_bounds
+check-requires-after_bounds g c κs within = can_check c.in-Ok-read_drawing.reading c.in-Ok-read_drawing.ensures.limits
 
 pub returns-in-Err-check : goal.returns-in-Err-check
-returns-in-Err-check c =
+returns-in-Err-check g c =
     let tree = c.in-Ok.tree in
     let reading = c.in-Ok-read_drawing.reading in
     decides_by_one_answer (Err c.map-in-Err-check.result) tt
@@ -25,7 +25,7 @@ returns-in-Err-check c =
     (text_answer c.args.bytes.now)
 
 pub returns : goal.returns
-returns c =
+returns g c =
     decides_by_one_answer _ (record {
       spelled = c.in-Ok.ensures.decides.value;
       read = c.in-Ok-read_drawing.ensures.decides.value;

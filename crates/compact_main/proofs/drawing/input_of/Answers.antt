@@ -7,7 +7,7 @@ use Rattle.compact_main.proofs.Refusals.{told}
 use Rattle.compact_main.proofs.drawing.input_of.Goals as goal
 
 pub returns-in-Err-clause-fault : goal.returns-in-Err-clause-fault
-returns-in-Err-clause-fault c =
+returns-in-Err-clause-fault g c =
     told Drawing Drawing c.in-Err.refusal c.map.result (λ why. Refused why) (FirstTextFault c.args.bytes.now) (FirstFault c.args.command c.args.bytes.now)
     (λ why first. input_fault c.args.command c.args.bytes.now why c.requires.drawing c.requires.within first)
     c.in-Err.ensures.fault c.map.ensures

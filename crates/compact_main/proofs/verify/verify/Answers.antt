@@ -9,14 +9,14 @@ use Rattle.compact_main.proofs.Refusals.{told}
 use Rattle.compact_main.proofs.verify.verify.Goals as goal
 
 pub returns-in-Err-clause-fault : goal.returns-in-Err-clause-fault
-returns-in-Err-clause-fault c =
+returns-in-Err-clause-fault g c =
     let drawing = c.in_ok-drawing.drawing in
     told ℤ (List ℕ) c.in-Err.refusal c.map.result (λ unproved. NotProved unproved)
     (FirstUnproved c.args.bytes.now drawing) (FirstFault Verify c.args.bytes.now)
     (λ unproved first. (drawing, c.in_ok-drawing.ensures.input, first)) c.in-Err.ensures.unproved c.map.ensures
 
 pub returns-in_ok-proved_line-in-Ok-clause-output : goal.returns-in_ok-proved_line-in-Ok-clause-output
-returns-in_ok-proved_line-in-Ok-clause-output c =
+returns-in_ok-proved_line-in-Ok-clause-output g c =
     let (places, is, long) = c.in-Ok.ensures.proved in
     let fits : SFits w64 c.in-Ok.length = search rules in
     let told = rw (to_z-of_z w64 c.in-Ok.length fits) at c.in_ok-proved_line-in-Ok.ensures in

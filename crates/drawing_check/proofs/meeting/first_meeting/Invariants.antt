@@ -1,4 +1,4 @@
-use Rattle.drawing_check.proofs.MeetingLemmas.{AreApart}
+use Rattle.drawing_check.specs.inner.Partners.{AreApart}
 use Rattle.drawing_check.proofs.meeting.first_meeting.Given as goal
 
 abbrev pub invariant-loop-first : goal.invariant-loop-first
