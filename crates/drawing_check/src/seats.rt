@@ -22,11 +22,7 @@ pub(crate) struct Seat {
 
 /// A seat for each piece, in the order in which they begin along the axis along which the places
 /// reach farther: there fewer pieces lie beside one another.
-pub(crate) fn seats_of(
-    alloc: Global,
-    plan: &Plan,
-    places: &Places,
-) -> Result<Vec<Seat>, NoMemory>
+pub(crate) fn seats_of(alloc: Global, plan: &Plan, places: &Places) -> Result<Vec<Seat>, NoMemory>
     requires { CanCheck plan.now places.now }
     ensures { IfOk result (λ seats. AreSeats places.now.xy plan.now.pieces seats.items) }
 {
