@@ -93,7 +93,14 @@ fn a_note_that_cannot_be_written_changes_no_status(rt: HostRuntime) -> Result<()
     let mut source = PlainSource::new(CROSSING);
     let mut out = sink_of(alloc, 10, &[])?;
     let mut notes = sink_of(alloc, 100, &[1])?;
-    let status = run_alone(&rt, alloc, words.as_slice(), &mut source, &mut out, &mut notes);
+    let status = run_alone(
+        &rt,
+        alloc,
+        words.as_slice(),
+        &mut source,
+        &mut out,
+        &mut notes,
+    );
     assert_eq!(rt; status, Status::Refused(Why::Shape(crossing)));
     assert_eq!(rt; notes.bytes(), b"".as_slice());
     Ok(())

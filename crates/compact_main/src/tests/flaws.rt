@@ -39,11 +39,7 @@ fn slanted_when_verified<'a>(text: &'a [u8], piece: u32, line: &'a [u8]) -> Row<
     }
 }
 
-fn assert_flaw<R: Abort + Threads + Sync>(
-    rt: &R,
-    alloc: Global,
-    flaw: &Flaw,
-) -> Result<(), Fail> {
+fn assert_flaw<R: Abort + Threads + Sync>(rt: &R, alloc: Global, flaw: &Flaw) -> Result<(), Fail> {
     let text = joined(alloc, flaw.drawing, flaw.certificate)?;
     let row = not_proved(flaw.name, text.as_slice(), flaw.unproved, flaw.line);
     assert_run(rt, alloc, &row)

@@ -48,11 +48,7 @@ fn refuses_what_is_no_gml(rt: HostRuntime) -> Result<(), Fail> {
 }
 
 /// Two runs on a text that holds no drawing: of `draw --plain` and of `check`.
-fn assert_refused<R: Abort + Threads + Sync>(
-    rt: &R,
-    alloc: Global,
-    row: &Row,
-) -> Result<(), Fail> {
+fn assert_refused<R: Abort + Threads + Sync>(rt: &R, alloc: Global, row: &Row) -> Result<(), Fail> {
     assert_run(rt, alloc, row)?;
     assert_run(
         rt,

@@ -119,7 +119,14 @@ pub(super) fn assert_run<R: Abort + Threads + Sync>(
     let mut source = MemorySource::new(text, 16, Vec::from_slice(alloc, row.failing)?);
     let mut out = sink_of(alloc, row.room, &[])?;
     let mut notes = sink_of(alloc, 100, &[])?;
-    let status = run_alone(rt, alloc, words.as_slice(), &mut source, &mut out, &mut notes);
+    let status = run_alone(
+        rt,
+        alloc,
+        words.as_slice(),
+        &mut source,
+        &mut out,
+        &mut notes,
+    );
     assert_eq!(rt; status, row.status, "{name}, {command}");
     assert_eq!(rt;
         out.bytes(),
@@ -145,7 +152,14 @@ pub(super) fn assert_long<R: Abort + Threads + Sync>(
     let mut source = PlainSource::new(row.text);
     let mut out = sink_of(alloc, row.room, &[])?;
     let mut notes = sink_of(alloc, 100, &[])?;
-    let status = run_alone(rt, alloc, words.as_slice(), &mut source, &mut out, &mut notes);
+    let status = run_alone(
+        rt,
+        alloc,
+        words.as_slice(),
+        &mut source,
+        &mut out,
+        &mut notes,
+    );
     assert_eq!(rt; status, row.status, "{name}, {command}");
     assert!(rt;
         out.bytes() == row.written,
