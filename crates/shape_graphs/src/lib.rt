@@ -18,7 +18,7 @@ pub use graph::{Arc, Cycle, DiffGraph, GREATEST_LEAST, GREATEST_PULL, MOST_AMOUN
 pub use graphs::{axis_of_side, graphs_of, side_arc};
 pub use growing::{GrowingGraph, GrowingGraphs};
 pub use law::{cycles_and_walks, paths_of_arcs, places_by_graphs, solutions_and_cycles};
-pub use measure::{Backing, Measure, Verdict, least_keys, verdicts_are_exact};
+pub use measure::{Backing, Measure, Verdict, Workspace, least_keys, verdicts_are_exact};
 
 #[cfg(test)]
 mod tests;

@@ -1,6 +1,6 @@
 //! Measures of drawings, and the verdicts of their solvers on lists of choices.
 
-ghost use Rattle.std.specs.Prelude.{◌≡◌, ◌↔◌, ℤ, ◌<ℤ◌, ◌≤ℤ◌, pos, List, length, IfOk, MatchOption};
+ghost use Rattle.std.specs.Prelude.{◌≡◌, ◌↔◌, ℤ, ◌<ℤ◌, ◌≤ℤ◌, pos, List, length, IfOk, MatchOption, OnOk};
 ghost use Rattle.compact_types.specs.declared.limits.TheConstants.{GREATEST_THOUSANDTHS};
 ghost use Rattle.compact_types.specs.declared.places.Axis.{Axis as AnyAxis};
 ghost use Rattle.compact_types.specs.declared.places.Key.{Key as AnyKey};
@@ -62,10 +62,19 @@ impl Backing for Flows {
     ghost backs = { DoBack };
 }
 
+/// What a solver keeps from one list of choices of a shape to the next.
+pub trait Workspace: Drop {
+    // It was made for this shape, and holds true of it what it holds.
+    ghost serves: { AnyShape → Self → Type 0 };
+}
+
 /// What drawings are worth, and a solver that finds the least key of a list of choices.
 pub trait Measure: Sync {
     /// The proofs of the solver's verdicts.
     type Proof: Backing;
+
+    /// What the solver keeps from one list of choices to the next.
+    type Workspace: Workspace;
 
     /// What the places are worth. It takes no memory.
     fn worth(&self, bars: &Bars, places: &Places) -> i64
@@ -79,6 +88,35 @@ pub trait Measure: Sync {
     /// The same proof once more, so that a branch can be solved from it while another keeps it.
     fn again(&self, alloc: Global, proof: &Self::Proof) -> Result<Self::Proof, NoMemory>
         ensures { IfOk result (λ copy. copy ≡ proof.now) };
+
+    /// A workspace for the shape. A search makes one for each of its workers.
+    fn workspace(&self, alloc: Global, bars: &Bars) -> Result<Self::Workspace, NoMemory>
+        ensures { IfOk result (Self.Workspace.serves bars.now) };
+
+    /// The verdict on the choices, as `solve` gives it. What was solved before in the workspace
+    /// makes it quick where the choices are those of an earlier call and one more; it has no
+    /// influence on whether the verdict is a cycle, a bound or a key, nor on the key.
+    fn solve_in(
+        &self,
+        alloc: Global,
+        bars: &Bars,
+        workspace: &mut Self::Workspace,
+        extension: &Extension,
+        start: Option<&Self::Proof>,
+        stop_above: i64,
+    ) -> Result<Verdict<Self::Proof>, NoMemory>
+        requires fit { Fit bars.now extension.now.choices }
+        requires start { MatchOption start (Unit {0}) (λ proof.
+            BacksBefore (Self.Proof.backs bars.now) extension.now.choices proof.now) }
+        requires serves { Self.Workspace.serves bars.now workspace.old }
+        ensures has_least { HaveNoCycle bars.now extension.now.choices → (key : AnyKey)
+            × IsLeastKey Self.Proof.objective bars.now extension.now.choices key }
+        ensures right { IfOk result
+            (IsRight Self.Proof.objective bars.now extension.now.choices) }
+        ensures asked { IfOk result (IsAsked stop_above) }
+        ensures backed { IfOk result
+            (IsBacked (Self.Proof.backs bars.now extension.now.choices)) }
+        ensures serves { OnOk result (Self.Workspace.serves bars.now workspace.new) };
 
     /// The verdict on the choices: a cycle of the first graph that has one; else, where the least
     /// key is worth more than `stop_above`, a bound above it; else the least key. `start` is a
