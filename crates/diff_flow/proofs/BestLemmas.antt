@@ -17,7 +17,7 @@ use Rattle.diff_flow.specs.declared.steps.Step.{Step}
 use Rattle.diff_flow.specs.Amounts.{IsFlowOn}
 use Rattle.diff_flow.specs.Tight.{AreTight}
 use Rattle.diff_flow.specs.Improving.{IsBestByNumbers, IsRaised}
-use Rattle.diff_flow.specs.inner.Steps.{step_at, AreStepsOf, ArePaired, IsOpen, AreMet}
+use Rattle.diff_flow.specs.inner.Steps.{step_at, along_at, AreStepsOf, ArePaired, IsOpen, AreMet}
 use Rattle.diff_flow.specs.inner.Numbers.{height, AreLeastMet}
 use Rattle.diff_flow.specs.inner.Routing.{net_by, IsSpread, IsRouting, AreDropped, AreGiven, AreFirst}
 use Rattle.compact_types.proofs.Laws.{times-le_pos}
@@ -72,26 +72,32 @@ spread_first nodes arcs steps given v inside = refl
 
 -- numbers that meet all arcs, and just meet those with an amount, meet all open steps
 pub met_where_just : (arcs : ℕ) (steps : List Step) (amounts numbers : List ℕ) → ArePaired arcs steps →
-    ((k : ℕ) → k < arcs → height numbers (step_at steps k).from + (step_at steps k).up ≤ height numbers (step_at steps k).to) →
+    ((k : ℕ) → k < arcs → height numbers (along_at steps k).from + (along_at steps k).up ≤ height numbers (along_at steps k).to) →
     ((k : ℕ) → k < arcs → 0 < amount_at amounts k →
-    height numbers (step_at steps k).to ≤ height numbers (step_at steps k).from + (step_at steps k).up) →
+    height numbers (along_at steps k).to ≤ height numbers (along_at steps k).from + (along_at steps k).up) →
     AreMet steps amounts (height numbers)
 met_where_just arcs steps amounts numbers paired met just k inside opens =
     elim (cases_lt 0 (step_at steps k).up) [
       | inl up ↦
           let number = along_number arcs steps paired k inside up in
-          omega (arith, met k number.0)
+          let is = met number.0 number.1 in
+          let from : height numbers (step_at steps k).from ≡ height numbers (along_at steps number.0).from =
+          ap (λ j. height numbers (step_at steps j).from) number.2 in
+          let to : height numbers (step_at steps k).to ≡ height numbers (along_at steps number.0).to =
+          ap (λ j. height numbers (step_at steps j).to) number.2 in
+          let same : (step_at steps k).up ≡ (along_at steps number.0).up = ap (λ j. (step_at steps j).up) number.2 in
+          omega (arith, is, from, to, same)
       | inr none ↦
           let up : (step_at steps k).up ≡ 0 = omega arith in
           let number = against_number arcs steps paired k inside up in
           let some : 0 < amount_at amounts number.0 = rw number.3 at (some_at k up opens) in
           let is = just number.0 number.1 some in
           let back = paired.back number.0 number.1 in
-          let from : height numbers (step_at steps k).from ≡ height numbers (step_at steps number.0).to =
+          let from : height numbers (step_at steps k).from ≡ height numbers (along_at steps number.0).to =
           ap (λ j. height numbers (step_at steps j).from) number.2 ∙ ap (height numbers) back.from in
-          let to : height numbers (step_at steps k).to ≡ height numbers (step_at steps number.0).from =
+          let to : height numbers (step_at steps k).to ≡ height numbers (along_at steps number.0).from =
           ap (λ j. height numbers (step_at steps j).to) number.2 ∙ ap (height numbers) back.to in
-          let down : (step_at steps k).down ≡ (step_at steps number.0).up = ap (λ j. (step_at steps j).down) number.2 ∙ back.down in
+          let down : (step_at steps k).down ≡ (along_at steps number.0).up = ap (λ j. (step_at steps j).down) number.2 ∙ back.down in
           omega (arith, is, from, to, down, up)
     ]
   where
@@ -101,7 +107,7 @@ met_where_just arcs steps amounts numbers paired met just k inside opens =
 -- all amounts that are left are tight
 pub routing_first : (nodes arcs limit : ℕ) (steps : List Step) (given amounts numbers over want : List ℕ) → ArePaired arcs steps →
     length numbers ≡ nodes → ((v : ℕ) → v < nodes → height numbers v ≤ limit) →
-    ((k : ℕ) → k < arcs → height numbers (step_at steps k).from + (step_at steps k).up ≤ height numbers (step_at steps k).to) →
+    ((k : ℕ) → k < arcs → height numbers (along_at steps k).from + (along_at steps k).up ≤ height numbers (along_at steps k).to) →
     AreGiven arcs given → AreDropped nodes arcs arcs steps numbers amounts over want → IsSpread nodes arcs steps given amounts over want →
     IsRouting nodes arcs limit steps amounts numbers over want
 routing_first nodes arcs limit steps given amounts numbers over want paired one_for_each low met few dropped spread = record {

@@ -10,7 +10,7 @@ use Rattle.diff_flow.specs.declared.better.Better.{Better}
 use Rattle.diff_flow.specs.Improving.{IsBestByNumbers, IsShownBest}
 use Rattle.diff_flow.specs.Tight.{AreTight}
 use Rattle.diff_flow.specs.inner.Bettering.{IsBetter}
-use Rattle.diff_flow.specs.inner.Steps.{step_at, AreStepsOf, AreMet}
+use Rattle.diff_flow.specs.inner.Steps.{along_at, AreStepsOf, AreMet}
 use Rattle.diff_flow.specs.inner.Numbers.{height}
 use Rattle.diff_flow.proofs.Duality.{bound_below, tight_where_equal, equal_where_tight, best_by_tight}
 use Rattle.diff_flow.proofs.TightLemmas.{tight_where_met}
@@ -42,9 +42,9 @@ module _ (graph : DiffGraph) (steps : Steps) (amounts : List ℕ) (better : Bett
       let i_in : better.slack < length graph.arcs = omega (arith, is.slack.inside, arcs) in
       let here = just better.slack i_in is.slack.some in
       let step = are.along better.slack i_in in
-      let from : height better.numbers.items (step_at steps.list.items better.slack).from ≡ height better.numbers.items (arc_at graph.arcs better.slack).from =
+      let from : height better.numbers.items (along_at steps.list.items better.slack).from ≡ height better.numbers.items (arc_at graph.arcs better.slack).from =
       ap (height better.numbers.items) step.from in
-      let to : height better.numbers.items (step_at steps.list.items better.slack).to ≡ height better.numbers.items (arc_at graph.arcs better.slack).to =
+      let to : height better.numbers.items (along_at steps.list.items better.slack).to ≡ height better.numbers.items (arc_at graph.arcs better.slack).to =
       ap (height better.numbers.items) step.to in
       omega (arith, ints, here, from, to, step.up, is.slack.more)
 

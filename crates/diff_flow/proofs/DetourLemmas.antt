@@ -1,13 +1,13 @@
 -- A unit of a flow on another way.
-use Rattle.std.proofs.Common.{◌≡◌, ℕ, ◌+◌, ◌-◌, ◌<◌, ◌≤◌, inl, inr, pos, List, length, get_or, set, replicate, sym, ap, subst, ◌∙◌, arith}
+use Rattle.std.proofs.Common.{◌≡◌, ℕ, ◌+◌, ◌-◌, ◌*◌, ◌<◌, ◌≤◌, inl, inr, pos, List, length, get_or, set, replicate, sym, ap, subst, ◌∙◌, arith}
 use Rattle.std.specs.Prelude.{◌+ℤ◌}
 use Rattle.std.proofs.lemmas.Int.{ints}
 use Rattle.std.proofs.lemmas.Bool.{cases_eq, cases_lt}
 use Rattle.std.proofs.lemmas.List.{get_or-set_same, get_or-set_other, length-set, length-replicate}
 use Rattle.shape_graphs.specs.Flows.{amount_at, at_node}
 use Rattle.diff_flow.specs.declared.steps.Step.{Step}
-use Rattle.diff_flow.specs.declared.search.Reached.{Reached}
-use Rattle.diff_flow.specs.inner.Steps.{step_at, AreStepsWithin, ArePaired, AreMet}
+use Rattle.diff_flow.specs.declared.tree.Reached.{Reached}
+use Rattle.diff_flow.specs.inner.Steps.{step_at, along_at, against_at, AreStepsWithin, ArePaired, AreMet}
 use Rattle.diff_flow.specs.inner.Numbers.{height, NoneMeet}
 use Rattle.diff_flow.specs.inner.Search.{entry_at, IsPassable, IsTree, NoneLacks, ArePassed}
 use Rattle.diff_flow.specs.inner.Routing.{net_by, IsMoved, IsSlack, IsDetour}
@@ -36,24 +36,24 @@ unit_at n i v inside =
 
 -- some arc is slack where no numbers meet the steps
 pub not_all_just : (arcs : ℕ) (steps : List Step) (amounts numbers : List ℕ) → ArePaired arcs steps →
-    ((k : ℕ) → k < arcs → height numbers (step_at steps k).from + (step_at steps k).up ≤ height numbers (step_at steps k).to) →
+    ((k : ℕ) → k < arcs → height numbers (along_at steps k).from + (along_at steps k).up ≤ height numbers (along_at steps k).to) →
     NoneMeet steps amounts →
     ((k : ℕ) → k < arcs → 0 < amount_at amounts k →
-    height numbers (step_at steps k).to ≤ height numbers (step_at steps k).from + (step_at steps k).up) → ⊥
+    height numbers (along_at steps k).to ≤ height numbers (along_at steps k).from + (along_at steps k).up) → ⊥
 not_all_just arcs steps amounts numbers paired met none just =
     none (height numbers) (met_where_just arcs steps amounts numbers paired met just)
 
 -- a unit less on an arc
 pub net_unit_less : (arcs : ℕ) (steps : List Step) (amounts : List ℕ) (i v : ℕ) → i < arcs → length amounts ≡ arcs → 0 < get_or amounts i 0 →
-    net_by steps arcs (set amounts i (get_or amounts i 0 - 1)) v +ℤ at_node (step_at steps i).to v (pos 1)
-    ≡ net_by steps arcs amounts v +ℤ at_node (step_at steps i).from v (pos 1)
+    net_by steps arcs (set amounts i (get_or amounts i 0 - 1)) v +ℤ at_node (along_at steps i).to v (pos 1)
+    ≡ net_by steps arcs amounts v +ℤ at_node (along_at steps i).from v (pos 1)
 net_unit_less arcs steps amounts i v inside all some =
     let changed = net_changed arcs steps amounts (set amounts i (get_or amounts i 0 - 1)) i v inside
     (λ j apart. get_or-set_other amounts i j (get_or amounts i 0 - 1) 0 apart) in
     let now : get_or (set amounts i (get_or amounts i 0 - 1)) i 0 ≡ get_or amounts i 0 - 1 =
     get_or-set_same amounts i (get_or amounts i 0 - 1) 0 (omega arith) in
-    let to = at_sum (step_at steps i).to v (amount_at (set amounts i (get_or amounts i 0 - 1)) i) 1 (amount_at amounts i) (omega (arith, now, some)) in
-    let from = at_sum (step_at steps i).from v (amount_at (set amounts i (get_or amounts i 0 - 1)) i) 1 (amount_at amounts i) (omega (arith, now, some)) in
+    let to = at_sum (along_at steps i).to v (amount_at (set amounts i (get_or amounts i 0 - 1)) i) 1 (amount_at amounts i) (omega (arith, now, some)) in
+    let from = at_sum (along_at steps i).from v (amount_at (set amounts i (get_or amounts i 0 - 1)) i) 1 (amount_at amounts i) (omega (arith, now, some)) in
     omega (arith, ints, changed, to, from)
 
 module _ (nodes arcs reach : ℕ) (steps : List Step) (amounts numbers : List ℕ) (i : ℕ) (within : AreStepsWithin nodes arcs reach steps)
@@ -62,16 +62,16 @@ module _ (nodes arcs reach : ℕ) (steps : List Step) (amounts numbers : List �
   pub way_open : (best : List ℕ) (tree : List Reached) (places : List ℕ) →
       ((v : ℕ) → v < nodes → net_by steps arcs best v ≡ net_by steps arcs amounts v) → AreMet steps best (height numbers) →
       IsTree nodes steps (set amounts i (get_or amounts i 0 - 1)) numbers tree places →
-      (entry_at tree 0).node ≡ (step_at steps i).from →
-      NoneLacks (set (replicate {A = ℕ} nodes 0) (step_at steps i).to 1) places →
+      (entry_at tree 0).node ≡ (along_at steps i).from →
+      NoneLacks (set (replicate {A = ℕ} nodes 0) (along_at steps i).to 1) places →
       ArePassed steps (set amounts i (get_or amounts i 0 - 1)) numbers tree places (length tree) → ⊥
   way_open best tree places net met are first lacks passed =
-      cut_by nodes arcs (λ k. (step_at steps k).from) (λ k. (step_at steps k).to) ends (amount_at less) (amount_at best)
-      (λ v. get_or (set (replicate {A = ℕ} nodes 0) (step_at steps i).from 1) v 0)
-      (λ v. get_or (set (replicate {A = ℕ} nodes 0) (step_at steps i).to 1) v 0)
-      (λ v. get_or places v 0) (step_at steps i).from balance from_in marked
-      (let is = unit_at nodes (step_at steps i).from (step_at steps i).from from_in in
-      let one = at_same (step_at steps i).from (pos 1) in omega (arith, ints, is, one))
+      cut_by nodes arcs (λ k. (along_at steps k).from) (λ k. (along_at steps k).to) ends (amount_at less) (amount_at best)
+      (λ v. get_or (set (replicate {A = ℕ} nodes 0) (along_at steps i).from 1) v 0)
+      (λ v. get_or (set (replicate {A = ℕ} nodes 0) (along_at steps i).to 1) v 0)
+      (λ v. get_or places v 0) (along_at steps i).from balance from_in marked
+      (let is = unit_at nodes (along_at steps i).from (along_at steps i).from from_in in
+      let one = at_same (along_at steps i).from (pos 1) in omega (arith, ints, is, one))
       (λ v v_in some. lacks v some)
       (λ k k_in in_from out_to. elim (cases_lt 0 (amount_at best k)) [
         | inl some ↦ absurd (omega (arith, out_to, end_reached k k_in in_from some))
@@ -85,25 +85,25 @@ module _ (nodes arcs reach : ℕ) (steps : List Step) (amounts numbers : List �
       less : List ℕ
       less = set amounts i (get_or amounts i 0 - 1)
 
-      ends : (k : ℕ) → k < arcs → ((step_at steps k).from < nodes) × ((step_at steps k).to < nodes)
-      ends k k_in = let is = within k (omega (arith, paired.two_for_each)) in (is.from, is.to)
+      ends : (k : ℕ) → k < arcs → ((along_at steps k).from < nodes) × ((along_at steps k).to < nodes)
+      ends k k_in = let is = within (2 * k) (omega (arith, paired.two_for_each)) in (is.from, is.to)
 
-      from_in : (step_at steps i).from < nodes
+      from_in : (along_at steps i).from < nodes
       from_in = (ends i slack.inside).0
 
-      marked : 0 < get_or places (step_at steps i).from 0
+      marked : 0 < get_or places (along_at steps i).from 0
       marked =
           let is = are.at_place 0 are.some in
-          let e : get_or places (entry_at tree 0).node 0 ≡ get_or places (step_at steps i).from 0 = ap (λ v. get_or places v 0) first in
+          let e : get_or places (entry_at tree 0).node 0 ≡ get_or places (along_at steps i).from 0 = ap (λ v. get_or places v 0) first in
           omega (arith, is, e)
 
       balance : (v : ℕ) → v < nodes → net_by steps arcs (set amounts i (get_or amounts i 0 - 1)) v
-          +ℤ pos (get_or (set (replicate {A = ℕ} nodes 0) (step_at steps i).to 1) v 0)
-          ≡ net_by steps arcs best v +ℤ pos (get_or (set (replicate {A = ℕ} nodes 0) (step_at steps i).from 1) v 0)
+          +ℤ pos (get_or (set (replicate {A = ℕ} nodes 0) (along_at steps i).to 1) v 0)
+          ≡ net_by steps arcs best v +ℤ pos (get_or (set (replicate {A = ℕ} nodes 0) (along_at steps i).from 1) v 0)
       balance v v_in =
           let unit = net_unit_less arcs steps amounts i v slack.inside all slack.some in
-          let to = unit_at nodes (step_at steps i).to v (ends i slack.inside).1 in
-          let from = unit_at nodes (step_at steps i).from v from_in in
+          let to = unit_at nodes (along_at steps i).to v (ends i slack.inside).1 in
+          let from = unit_at nodes (along_at steps i).from v from_in in
           let same = net v v_in in
           omega (arith, ints, unit, to, from, same)
 
@@ -115,37 +115,37 @@ module _ (nodes arcs reach : ℕ) (steps : List Step) (amounts numbers : List �
           let low = are.within (step_at steps k).from node_in in
           passed (get_or places (step_at steps k).from 0 - 1) (omega (arith, low, from)) k k_in (omega arith) (sym place) passable
 
-      end_reached : (k : ℕ) → k < arcs → 0 < get_or places (step_at steps k).from 0 → 0 < amount_at best k →
-          0 < get_or places (step_at steps k).to 0
+      end_reached : (k : ℕ) → k < arcs → 0 < get_or places (along_at steps k).from 0 → 0 < amount_at best k →
+          0 < get_or places (along_at steps k).to 0
       end_reached k k_in from some =
           let two = paired.two_for_each in
           let up = rises_along arcs steps best (height numbers) paired met k k_in in
           let back = paired.back k k_in in
-          let arc : (step_at steps (arcs + k)).arc ≡ k = back.arc ∙ paired.number k k_in in
-          let amount : amount_at best (step_at steps (arcs + k)).arc ≡ amount_at best k = ap (amount_at best) arc in
-          let down = met (arcs + k) (omega (arith, two)) (omega (arith, amount, some)) in
-          let h_from : height numbers (step_at steps (arcs + k)).from ≡ height numbers (step_at steps k).to = ap (height numbers) back.from in
-          let h_to : height numbers (step_at steps (arcs + k)).to ≡ height numbers (step_at steps k).from = ap (height numbers) back.to in
-          let just : height numbers (step_at steps k).to ≡ height numbers (step_at steps k).from + (step_at steps k).up =
+          let arc : (against_at steps k).arc ≡ k = back.arc ∙ paired.number k k_in in
+          let amount : amount_at best (against_at steps k).arc ≡ amount_at best k = ap (amount_at best) arc in
+          let down = met (2 * k + 1) (omega (arith, two)) (omega (arith, amount, some)) in
+          let h_from : height numbers (against_at steps k).from ≡ height numbers (along_at steps k).to = ap (height numbers) back.from in
+          let h_to : height numbers (against_at steps k).to ≡ height numbers (along_at steps k).from = ap (height numbers) back.to in
+          let just : height numbers (along_at steps k).to ≡ height numbers (along_at steps k).from + (along_at steps k).up =
           omega (arith, up, down, h_from, h_to, back.up, back.down) in
-          passed_at k (omega (arith, two)) from (record { along = λ _. just; against = λ none. absurd (omega (arith, none, paired.up k k_in)) })
+          passed_at (2 * k) (omega (arith, two)) from (record { along = λ _. just; against = λ none. absurd (omega (arith, none, paired.up k k_in)) })
 
-      start_reached : (k : ℕ) → k < arcs → 0 < get_or places (step_at steps k).to 0 → 0 < get_or (set amounts i (get_or amounts i 0 - 1)) k 0 →
-          0 < get_or places (step_at steps k).from 0
+      start_reached : (k : ℕ) → k < arcs → 0 < get_or places (along_at steps k).to 0 → 0 < get_or (set amounts i (get_or amounts i 0 - 1)) k 0 →
+          0 < get_or places (along_at steps k).from 0
       start_reached k k_in to some =
           let back = paired.back k k_in in
-          let arc : (step_at steps (arcs + k)).arc ≡ k = back.arc ∙ paired.number k k_in in
-          let amount : get_or (set amounts i (get_or amounts i 0 - 1)) (step_at steps (arcs + k)).arc 0 ≡ get_or (set amounts i (get_or amounts i 0 - 1)) k 0 =
+          let arc : (against_at steps k).arc ≡ k = back.arc ∙ paired.number k k_in in
+          let amount : get_or (set amounts i (get_or amounts i 0 - 1)) (against_at steps k).arc 0 ≡ get_or (set amounts i (get_or amounts i 0 - 1)) k 0 =
           ap (λ j. get_or (set amounts i (get_or amounts i 0 - 1)) j 0) arc in
-          let begins : get_or places (step_at steps (arcs + k)).from 0 ≡ get_or places (step_at steps k).to 0 = ap (λ v. get_or places v 0) back.from in
-          let reached = passed_at (arcs + k) (omega (arith, paired.two_for_each)) (omega (arith, begins, to))
+          let begins : get_or places (against_at steps k).from 0 ≡ get_or places (along_at steps k).to 0 = ap (λ v. get_or places v 0) back.from in
+          let reached = passed_at (2 * k + 1) (omega (arith, paired.two_for_each)) (omega (arith, begins, to))
           (record { along = λ up. absurd (omega (arith, up, back.up)); against = λ _. omega (arith, amount, some) }) in
-          let ends' : get_or places (step_at steps (arcs + k)).to 0 ≡ get_or places (step_at steps k).from 0 = ap (λ v. get_or places v 0) back.to in
+          let ends' : get_or places (against_at steps k).to 0 ≡ get_or places (along_at steps k).from 0 = ap (λ v. get_or places v 0) back.to in
           omega (arith, reached, ends')
 
   -- and then is
   pub detour_done : (amounts' : List ℕ) →
-      IsMoved nodes arcs steps 1 (step_at steps i).from (step_at steps i).to numbers (set amounts i (get_or amounts i 0 - 1)) amounts' →
+      IsMoved nodes arcs steps 1 (along_at steps i).from (along_at steps i).to numbers (set amounts i (get_or amounts i 0 - 1)) amounts' →
       IsDetour nodes arcs steps numbers amounts amounts' i
   detour_done amounts' moved = record {
     one_for_each = moved.one_for_each ∙ length-set amounts i (get_or amounts i 0 - 1);
@@ -185,7 +185,7 @@ other_has n goal w apart = get_or-set_other (replicate {A = ℕ} n 0) goal w 1 0
 
 -- where an arc is slack its ends are two nodes
 pub ends_apart : (arcs : ℕ) (steps : List Step) (amounts numbers : List ℕ) (i : ℕ) → IsSlack arcs steps amounts numbers i →
-    (step_at steps i).from ≡ (step_at steps i).to → ⊥
+    (along_at steps i).from ≡ (along_at steps i).to → ⊥
 ends_apart arcs steps amounts numbers i slack same =
-    let e : height numbers (step_at steps i).from ≡ height numbers (step_at steps i).to = ap (height numbers) same in
+    let e : height numbers (along_at steps i).from ≡ height numbers (along_at steps i).to = ap (height numbers) same in
     omega (arith, e, slack.more)

@@ -1,13 +1,14 @@
 -- Numbers that are raised step by step.
 use Rattle.std.proofs.Common.{◌≡◌, ℕ, suc, ◌+◌, ◌-◌, ◌*◌, ◌<◌, ◌≤◌, ◌⊎◌, inl, inr, List, [], ◌∷◌, ◌++◌, length, get_or, set, drop, replicate, refl, sym, ap, subst, ◌∙◌, arith, sum}
 use Rattle.std.proofs.lemmas.Bool.{cases_eq, cases_lt}
-use Rattle.std.proofs.lemmas.List.{length-set, get_or-replicate, length-replicate, length-drop, get_or-drop, length_push}
+use Rattle.std.proofs.lemmas.List.{length-set, get_or-replicate, length-replicate, length_push}
 use Rattle.std.proofs.lemmas.List.Sums.{sum_by-set}
 use Rattle.diff_flow.specs.declared.steps.Step.{Step}
 use Rattle.shape_graphs.specs.Flows.{amount_at}
-use Rattle.diff_flow.specs.inner.Steps.{step_at, AreStepsWithin, AreRows, ArePaired, IsOpen, Meets, AreMet}
+use Rattle.diff_flow.specs.inner.Steps.{step_at, along_at, against_at, AreStepsWithin, AreRows, ArePaired, IsOpen, Meets, AreMet}
 use Rattle.diff_flow.specs.inner.Numbers.{height, IsIn, AreLow, NoneMeet, IsLift, AreListed, Waits, Rises, AreLate, NoneLate, AreFrom, AreLeastMet}
 use Rattle.diff_flow.proofs.Gaps.{closed, closed_most, closed_keeps}
+use Rattle.diff_flow.proofs.StepLemmas.{halves}
 use Rattle.diff_flow.proofs.SetLemmas.{by_write, by_push, in_rest, in_last, in_pushed}
 
 -- numbers that meet the steps, without gaps
@@ -194,22 +195,36 @@ rises_all nodes steps amounts limit numbers waits queue node entry none rises = 
   ];
 }
 
--- the first of the queue is taken, and its steps are late
-pub rises_popped : (nodes : ℕ) (steps : List Step) (amounts : List ℕ) (limit : ℕ) (numbers waits queue queue' : List ℕ) (node : ℕ) →
-    node < nodes → node ≡ get_or queue 0 0 → queue' ≡ drop 1 queue → Rises nodes steps amounts limit numbers waits queue NoneLate →
+-- the first of the queue
+pub in_first : (queue queue' : List ℕ) (node : ℕ) → queue ≡ node ∷ queue' → IsIn queue node
+in_first queue queue' node taken = subst (λ xs. IsIn xs node) (sym taken) (0, omega arith, refl)
+
+-- the nodes that wait are in the queue without its first, which waits no more
+pub listed_taken : (nodes : ℕ) (waits queue queue' : List ℕ) (node : ℕ) → queue ≡ node ∷ queue' →
+    AreListed nodes waits queue → AreListed nodes (set waits node 0) queue'
+listed_taken nodes waits queue queue' node taken lists = record {
+  flags = length-set waits node 0 ∙ lists.flags;
+  listed = λ v v_in. by_write (λ x. 0 < x → IsIn queue' v) waits node v 0 node_in (λ here some. absurd (omega arith))
+      (λ apart some. subst (λ xs. IsIn xs v) (ap (drop 1) taken) (in_rest queue v node (ap (λ xs. get_or xs 0 0) (sym taken)) (lists.listed v v_in some) apart));
+  nodes_only = λ k k_in.
+      let old = lists.nodes_only (suc k) (omega (arith, k_in, ap length taken)) in
+      let e : get_or queue (suc k) 0 ≡ get_or queue' k 0 = ap (λ xs. get_or xs (suc k) 0) taken in
+      omega (arith, e, old);
+}
+  where
+    node_in : node < length waits
+    node_in =
+        let first = in_first queue queue' node taken in
+        let low = lists.nodes_only first.0 first.1 in
+        omega (arith, low, first.2, lists.flags)
+
+-- and its steps are late
+pub rises_taken : (nodes : ℕ) (steps : List Step) (amounts : List ℕ) (limit : ℕ) (numbers waits queue queue' : List ℕ) (node : ℕ) →
+    queue ≡ node ∷ queue' → Rises nodes steps amounts limit numbers waits queue NoneLate →
     Rises nodes steps amounts limit numbers (set waits node 0) queue' (AreLate steps node (length steps))
-rises_popped nodes steps amounts limit numbers waits queue queue' node node_in first rest rises = record {
+rises_taken nodes steps amounts limit numbers waits queue queue' node taken rises = record {
   low = rises.low;
-  lists = record {
-    flags = length-set waits node 0 ∙ rises.lists.flags;
-    listed = λ v v_in. by_write (λ x. 0 < x → IsIn queue' v) waits node v 0 flag_in (λ here some. absurd (omega arith))
-        (λ apart some. subst (λ xs. IsIn xs v) (sym rest) (in_rest queue v node first (rises.lists.listed v v_in some) apart));
-    nodes_only = λ k k_in.
-        let inside : k < length queue - 1 = omega (arith, k_in, ap length rest, length-drop 1 queue) in
-        let e : get_or queue' k 0 ≡ get_or queue (1 + k) 0 = ap (λ xs. get_or xs k 0) rest ∙ get_or-drop 1 queue k 0 in
-        let old = rises.lists.nodes_only (1 + k) (omega (arith, inside)) in
-        omega (arith, e, old);
-  };
+  lists = listed_taken nodes waits queue queue' node taken rises.lists;
   met = λ j j_in opens. elim (rises.met j j_in opens) [
     | inl waits_now ↦ elim (cases_eq (step_at steps j).from node) [
       | inl here ↦ inr (inr (here, j_in))
@@ -221,16 +236,10 @@ rises_popped nodes steps amounts limit numbers waits queue queue' node node_in f
 }
   where
     flag_in : node < length waits
-    flag_in = omega (arith, node_in, rises.lists.flags)
-
-pub rises_taken : (nodes : ℕ) (steps : List Step) (amounts : List ℕ) (limit : ℕ) (numbers waits queue queue' : List ℕ) (node : ℕ) →
-    queue ≡ node ∷ queue' → Rises nodes steps amounts limit numbers waits queue NoneLate →
-    Rises nodes steps amounts limit numbers (set waits node 0) queue' (AreLate steps node (length steps))
-rises_taken nodes steps amounts limit numbers waits queue queue' node taken rises =
-    let first : node ≡ get_or queue 0 0 = sym (ap (λ xs. get_or xs 0 0) taken) in
-    let some : 0 < length queue = omega (arith, ap length taken) in
-    let inside = rises.lists.nodes_only 0 some in
-    rises_popped nodes steps amounts limit numbers waits queue queue' node (omega (arith, first, inside)) first (sym (ap (drop 1) taken)) rises
+    flag_in =
+        let first = in_first queue queue' node taken in
+        let low = rises.lists.nodes_only first.0 first.1 in
+        omega (arith, low, first.2, rises.lists.flags)
 
 -- no node waits
 pub rises_done : (nodes arcs reach : ℕ) (steps : List Step) (amounts : List ℕ) (limit : ℕ) (numbers waits queue : List ℕ) →
@@ -260,7 +269,7 @@ low_more nodes arcs steps amounts limit numbers paired low = record {
 -- at the beginning only steps against arcs are not met
 pub rises_first : (nodes arcs : ℕ) (steps : List Step) (amounts : List ℕ) (limit : ℕ) (walks waits queue : List ℕ) →
     ArePaired arcs steps → AreLeastMet nodes steps [] limit walks → waits ≡ replicate {A = ℕ} nodes 0 → queue ≡ [] →
-    Rises nodes steps amounts limit walks waits queue (AreFrom (arcs + 0))
+    Rises nodes steps amounts limit walks waits queue (AreFrom 0)
 rises_first nodes arcs steps amounts limit walks waits queue paired least flags none = record {
   low = low_more nodes arcs steps amounts limit walks paired least.low;
   lists = record {
@@ -271,29 +280,32 @@ rises_first nodes arcs steps amounts limit walks waits queue paired least flags 
         absurd (omega (arith, some, flag, zero_at));
     nodes_only = λ k k_in. absurd (omega (arith, k_in, ap length none));
   };
-  met = λ k k_in opens. elim (cases_lt k arcs) [
-    | inl front ↦ inr (inl (least.met k k_in (omega (arith, paired.up k front))))
-    | inr back ↦ inr (inr (omega arith))
+  met = λ k k_in opens. let half = halves k in elim half.1 [
+    | inl even ↦
+        let some = paired.up half.0 (omega (arith, even, k_in, paired.two_for_each)) in
+        let up : 0 < (step_at steps k).up = subst (λ j. 0 < (step_at steps j).up) even some in
+        inr (inl (least.met k k_in (omega (arith, up))))
+    | inr odd ↦ inr (inr (half.0, omega arith, sym odd))
   ];
 }
 
 -- the step against one arc more is met, or its node waits
 pub rises_looked : (nodes arcs : ℕ) (steps : List Step) (amounts : List ℕ) (limit : ℕ) (walks waits queue waits' queue' : List ℕ) (i : ℕ) →
     ((v : ℕ) → 0 < get_or waits v 0 → 0 < get_or waits' v 0) → AreListed nodes waits' queue' →
-    (IsOpen amounts (step_at steps (arcs + i)) →
-    (0 < get_or waits' (step_at steps (arcs + i)).from 0) ⊎ Meets (height walks) (step_at steps (arcs + i))) →
-    Rises nodes steps amounts limit walks waits queue (AreFrom (arcs + i)) →
-    Rises nodes steps amounts limit walks waits' queue' (AreFrom (arcs + (i + 1)))
+    (IsOpen amounts (against_at steps i) →
+    (0 < get_or waits' (against_at steps i).from 0) ⊎ Meets (height walks) (against_at steps i)) →
+    Rises nodes steps amounts limit walks waits queue (AreFrom i) →
+    Rises nodes steps amounts limit walks waits' queue' (AreFrom (i + 1))
 rises_looked nodes arcs steps amounts limit walks waits queue waits' queue' i still lists here rises = record {
   low = rises.low;
   lists = lists;
   met = λ k k_in opens. elim (rises.met k k_in opens) [
     | inl waits_now ↦ inl (still _ waits_now)
     | inr (inl meets) ↦ inr (inl meets)
-    | inr (inr late) ↦ elim (cases_lt (arcs + i) k) [
-      | inl later ↦ inr (inr (omega (arith, later)))
+    | inr (inr late) ↦ elim (cases_lt i late.0) [
+      | inl later ↦ inr (inr (late.0, omega (arith, later), late.2))
       | inr now ↦
-          let same : arcs + i ≡ k = omega (arith, late, now) in
+          let same : 2 * i + 1 ≡ k = omega (arith, late.1, late.2, now) in
           elim (subst (λ j. IsOpen amounts (step_at steps j) → (0 < get_or waits' (step_at steps j).from 0) ⊎ Meets (height walks) (step_at steps j))
           same here opens) [
             | inl waits_here ↦ inl waits_here
@@ -305,30 +317,30 @@ rises_looked nodes arcs steps amounts limit walks waits queue waits' queue' i st
 
 -- where the arc is slack its node waits now
 pub looked_slack : (nodes arcs : ℕ) (steps : List Step) (amounts : List ℕ) (limit : ℕ) (walks waits queue waits' queue' : List ℕ) (i : ℕ) (step : Step) →
-    ArePaired arcs steps → i < arcs → step ≡ step_at steps i → Waits nodes step.to waits queue waits' queue' →
-    Rises nodes steps amounts limit walks waits queue (AreFrom (arcs + i)) →
-    Rises nodes steps amounts limit walks waits' queue' (AreFrom (arcs + (i + 1)))
+    ArePaired arcs steps → i < arcs → step ≡ along_at steps i → Waits nodes step.to waits queue waits' queue' →
+    Rises nodes steps amounts limit walks waits queue (AreFrom i) →
+    Rises nodes steps amounts limit walks waits' queue' (AreFrom (i + 1))
 looked_slack nodes arcs steps amounts limit walks waits queue waits' queue' i step paired inside is more rises =
     rises_looked nodes arcs steps amounts limit walks waits queue waits' queue' i more.still more.lists
     (λ opens. let back = paired.back i inside in
-    let node : step.to ≡ (step_at steps (arcs + i)).from = ap (λ (s : Step). s.to) is ∙ sym back.from in
+    let node : step.to ≡ (against_at steps i).from = ap (λ (s : Step). s.to) is ∙ sym back.from in
     inl (subst (λ v. 0 < get_or waits' v 0) node more.here)) rises
 
 -- where it is not slack the step against it is met
 pub looked_just : (nodes arcs : ℕ) (steps : List Step) (amounts : List ℕ) (limit : ℕ) (walks waits queue : List ℕ) (i : ℕ) (step : Step) →
-    ArePaired arcs steps → i < arcs → step ≡ step_at steps i →
+    ArePaired arcs steps → i < arcs → step ≡ along_at steps i →
     (0 < amount_at amounts i → height walks step.from + step.up < height walks step.to → ⊥) →
-    Rises nodes steps amounts limit walks waits queue (AreFrom (arcs + i)) →
-    Rises nodes steps amounts limit walks waits queue (AreFrom (arcs + (i + 1)))
+    Rises nodes steps amounts limit walks waits queue (AreFrom i) →
+    Rises nodes steps amounts limit walks waits queue (AreFrom (i + 1))
 looked_just nodes arcs steps amounts limit walks waits queue i step paired inside is just rises =
     rises_looked nodes arcs steps amounts limit walks waits queue waits queue i (λ v some. some) rises.lists
     (λ opens.
     let back = paired.back i inside in
-    let number : (step_at steps (arcs + i)).arc ≡ i = back.arc ∙ paired.number i inside in
-    let there : 0 < amount_at amounts (step_at steps (arcs + i)).arc = omega (arith, opens, back.up) in
+    let number : (against_at steps i).arc ≡ i = back.arc ∙ paired.number i inside in
+    let there : 0 < amount_at amounts (against_at steps i).arc = omega (arith, opens, back.up) in
     let some : 0 < amount_at amounts i = subst (λ j. 0 < amount_at amounts j) number there in
-    let from : height walks (step_at steps (arcs + i)).from ≡ height walks (step_at steps i).to = ap (height walks) back.from in
-    let to : height walks (step_at steps (arcs + i)).to ≡ height walks (step_at steps i).from = ap (height walks) back.to in
+    let from : height walks (against_at steps i).from ≡ height walks (along_at steps i).to = ap (height walks) back.from in
+    let to : height walks (against_at steps i).to ≡ height walks (along_at steps i).from = ap (height walks) back.to in
     inr (met_back (subst (λ (s : Step). height walks s.from + s.up < height walks s.to → ⊥) is (just some)) from to back.up back.down)) rises
   where
     met_back : {a b u c d v w : ℕ} → (a + u < b → ⊥) → c ≡ b → d ≡ a → v ≡ 0 → w ≡ u → c + v ≤ d + w
@@ -336,7 +348,7 @@ looked_just nodes arcs steps amounts limit walks waits queue i step paired insid
 
 -- all steps were looked at
 pub rises_begun : (nodes arcs : ℕ) (steps : List Step) (amounts : List ℕ) (limit : ℕ) (walks waits queue : List ℕ) (count : ℕ) →
-    ArePaired arcs steps → count ≡ arcs → Rises nodes steps amounts limit walks waits queue (AreFrom (arcs + count)) →
+    ArePaired arcs steps → count ≡ arcs → Rises nodes steps amounts limit walks waits queue (AreFrom count) →
     Rises nodes steps amounts limit walks waits queue NoneLate
 rises_begun nodes arcs steps amounts limit walks waits queue count paired all rises = record {
   low = rises.low;
@@ -344,7 +356,7 @@ rises_begun nodes arcs steps amounts limit walks waits queue count paired all ri
   met = λ k k_in opens. elim (rises.met k k_in opens) [
     | inl waits_now ↦ inl waits_now
     | inr (inl meets) ↦ inr (inl meets)
-    | inr (inr late) ↦ absurd (omega (arith, late, all, k_in, paired.two_for_each))
+    | inr (inr late) ↦ absurd (omega (arith, late.1, late.2, all, k_in, paired.two_for_each))
   ];
 }
 

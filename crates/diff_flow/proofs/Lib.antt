@@ -19,4 +19,7 @@ pub mod LabelLemmas
 pub mod WalkLemmas
 pub mod BetterLemmas
 pub mod TightLemmas
+pub mod LengthenLemmas
+pub mod GrowLemmas
+pub mod GrownSteps
 pub mod Laws

@@ -12,7 +12,7 @@ use Rattle.shape_graphs.specs.Arcs.{arc_at, EndsAreNodes, AreArcsWithin}
 use Rattle.shape_graphs.specs.Flows.{amount_at, Balances, bound_of, IsSolution, length_over, over}
 use Rattle.diff_flow.specs.declared.steps.Step.{Step}
 use Rattle.diff_flow.specs.Amounts.{IsFlowOn}
-use Rattle.diff_flow.specs.inner.Steps.{step_at, AreStepsOf, AreMet}
+use Rattle.diff_flow.specs.inner.Steps.{along_at, AreStepsOf, AreMet}
 use Rattle.diff_flow.specs.inner.Numbers.{height}
 use Rattle.diff_flow.specs.inner.Routing.{IsSlack, IsDetour, IsNear, net_by}
 use Rattle.compact_types.proofs.Laws.{times-sub}
@@ -81,8 +81,8 @@ module _ (nodes : ℕ) (arcs : List Arc) (steps : List Step) (given near best nu
   tight_over k inside more =
       let along = are.along k inside in
       let just = is.tight k inside more in
-      let a : height numbers (step_at steps k).from ≡ height numbers (arc_at arcs k).from = ap (height numbers) along.from in
-      let b : height numbers (step_at steps k).to ≡ height numbers (arc_at arcs k).to = ap (height numbers) along.to in
+      let a : height numbers (along_at steps k).from ≡ height numbers (arc_at arcs k).from = ap (height numbers) along.from in
+      let b : height numbers (along_at steps k).to ≡ height numbers (arc_at arcs k).to = ap (height numbers) along.to in
       omega (arith, ints, just, a, b, along.up)
 
   near_higher : (bound_of arcs given +ℤ pos 1) ≤ℤ bound_of arcs near
@@ -112,8 +112,8 @@ module _ (nodes : ℕ) (arcs : List Arc) (steps : List Step) (given near best nu
           ≤ℤ (pos (amount_at given i) *ℤ (over arcs (λ v. pos (height numbers v)) i -ℤ (arc_at arcs i).least))
       strict_here =
           let along = are.along i slack.inside in
-          let a : height numbers (step_at steps i).from ≡ height numbers (arc_at arcs i).from = ap (height numbers) along.from in
-          let b : height numbers (step_at steps i).to ≡ height numbers (arc_at arcs i).to = ap (height numbers) along.to in
+          let a : height numbers (along_at steps i).from ≡ height numbers (arc_at arcs i).from = ap (height numbers) along.from in
+          let b : height numbers (along_at steps i).to ≡ height numbers (arc_at arcs i).to = ap (height numbers) along.to in
           let some : pos 1 ≤ℤ (over arcs (λ v. pos (height numbers v)) i -ℤ (arc_at arcs i).least) =
           omega (arith, ints, slack.more, a, b, along.up) in
           let more = times-more (suc (amount_at near i)) (amount_at given i) (over arcs (λ v. pos (height numbers v)) i -ℤ (arc_at arcs i).least)

@@ -1,5 +1,5 @@
 -- One round: some excess is sent along a way.
-use Rattle.std.proofs.Common.{◌≡◌, ℕ, ◌+◌, ◌-◌, ◌^◌, ◌<◌, ◌≤◌, inl, inr, pos, List, get_or, set, sym, ap, subst, ◌∙◌, arith, sum}
+use Rattle.std.proofs.Common.{◌≡◌, ℕ, ◌+◌, ◌-◌, ◌*◌, ◌^◌, ◌<◌, ◌≤◌, inl, inr, pos, List, get_or, set, sym, ap, subst, ◌∙◌, arith, sum}
 use Rattle.std.proofs.lemmas.Int.{ints}
 use Rattle.std.proofs.lemmas.Bool.{cases_lt}
 use Rattle.std.proofs.lemmas.List.{length-set}
@@ -7,7 +7,7 @@ use Rattle.std.proofs.lemmas.List.Sums.{sum_by-set}
 use Rattle.compact_types.specs.Sums.{sum_to}
 use Rattle.shape_graphs.specs.Flows.{amount_at}
 use Rattle.diff_flow.specs.declared.steps.Step.{Step}
-use Rattle.diff_flow.specs.inner.Steps.{step_at, AreStepsWithin, ArePaired, IsOpen, AreMet}
+use Rattle.diff_flow.specs.inner.Steps.{step_at, along_at, AreStepsWithin, ArePaired, IsOpen, AreMet}
 use Rattle.diff_flow.specs.inner.Numbers.{height}
 use Rattle.diff_flow.specs.inner.Search.{AreFit, IsTrap}
 use Rattle.diff_flow.specs.inner.Routing.{IsMoved, IsRouting, IsKept}
@@ -18,29 +18,29 @@ use Rattle.diff_flow.proofs.RouteLemmas.{kept_moved, against_number}
 
 -- along an arc the numbers rise
 pub rises_along : (arcs : ℕ) (steps : List Step) (amounts : List ℕ) (h : ℕ → ℕ) → ArePaired arcs steps → AreMet steps amounts h →
-    (i : ℕ) → i < arcs → h (step_at steps i).from + (step_at steps i).up ≤ h (step_at steps i).to
+    (i : ℕ) → i < arcs → h (along_at steps i).from + (along_at steps i).up ≤ h (along_at steps i).to
 rises_along arcs steps amounts h paired met i inside =
     let some = paired.up i inside in
-    let is = met i (omega (arith, paired.two_for_each)) (omega (arith, some)) in
+    let is = met (2 * i) (omega (arith, paired.two_for_each)) (omega (arith, some)) in
     omega (arith, is, paired.level i inside)
 
 module _ (nodes arcs reach limit : ℕ) (steps : List Step) (amounts numbers over want : List ℕ)
     (within : AreStepsWithin nodes arcs reach steps) (paired : ArePaired arcs steps)
     (routing : IsRouting nodes arcs limit steps amounts numbers over want) where
-  ends : (i : ℕ) → i < arcs → ((step_at steps i).from < nodes) × ((step_at steps i).to < nodes)
-  ends i inside = let is = within i (omega (arith, paired.two_for_each)) in (is.from, is.to)
+  ends : (i : ℕ) → i < arcs → ((along_at steps i).from < nodes) × ((along_at steps i).to < nodes)
+  ends i inside = let is = within (2 * i) (omega (arith, paired.two_for_each)) in (is.from, is.to)
 
   -- excess is never trapped
   pub not_trapped : (start : ℕ) (marks : ℕ → ℕ) → start < nodes → 0 < get_or over start 0 → IsTrap nodes arcs steps amounts want start marks → ⊥
   not_trapped start marks inside some trap =
-      cut nodes arcs (λ i. (step_at steps i).from) (λ i. (step_at steps i).to) ends (amount_at amounts) (amount_at routing.given.0)
+      cut nodes arcs (λ i. (along_at steps i).from) (λ i. (along_at steps i).to) ends (amount_at amounts) (amount_at routing.given.0)
       (λ v. get_or over v 0) (λ v. get_or want v 0) marks start routing.given.2 inside trap.begins some trap.none_lacks trap.none_leaves trap.none_enters
 
   -- no amount is above what was given, and the excess
   pub amounts_few : arcs ≤ 2 ^ 30 → (i : ℕ) → i < arcs → amount_at amounts i ≤ 2 ^ 91
   amounts_few few i inside =
-      let low = carried nodes arcs (λ j. (step_at steps j).from) (λ j. (step_at steps j).to) ends (amount_at amounts) (amount_at routing.given.0)
-      (λ v. get_or over v 0) (λ v. height numbers v - height numbers (step_at steps i).from) i
+      let low = carried nodes arcs (λ j. (along_at steps j).from) (λ j. (along_at steps j).to) ends (amount_at amounts) (amount_at routing.given.0)
+      (λ v. get_or over v 0) (λ v. height numbers v - height numbers (along_at steps i).from) i
       (λ v v_in. let is = routing.given.2 v v_in in omega (arith, ints, is))
       inside (omega arith)
       (let up = rise i inside in omega (arith, up))
@@ -50,7 +50,7 @@ module _ (nodes arcs reach limit : ℕ) (steps : List Step) (amounts numbers ove
       subst (λ n. sum_to (λ v. pos (get_or over v 0)) n ≡ pos (sum over)) routing.even.over_for_each (list_sum over) in
       omega (arith, ints, low, given, excess, routing.even.few, few)
     where
-      rise : (j : ℕ) → j < arcs → height numbers (step_at steps j).from < height numbers (step_at steps j).to
+      rise : (j : ℕ) → j < arcs → height numbers (along_at steps j).from < height numbers (along_at steps j).to
       rise j j_in =
           let up = rises_along arcs steps amounts (height numbers) paired routing.fit.met j j_in in
           omega (arith, up, paired.up j j_in)
@@ -76,11 +76,11 @@ module _ (nodes arcs reach limit : ℕ) (steps : List Step) (amounts numbers ove
               let some : 0 < amount_at amounts' number.0 = rw number.3 at (some_at k up opens) in
               let just = moved.tight number.0 number.1 (omega (arith, none, some)) in
               let back = paired.back number.0 number.1 in
-              let from : height numbers' (step_at steps k).from ≡ height numbers' (step_at steps number.0).to =
+              let from : height numbers' (step_at steps k).from ≡ height numbers' (along_at steps number.0).to =
               ap (λ j. height numbers' (step_at steps j).from) number.2 ∙ ap (height numbers') back.from in
-              let to : height numbers' (step_at steps k).to ≡ height numbers' (step_at steps number.0).from =
+              let to : height numbers' (step_at steps k).to ≡ height numbers' (along_at steps number.0).from =
               ap (λ j. height numbers' (step_at steps j).to) number.2 ∙ ap (height numbers') back.to in
-              let down : (step_at steps k).down ≡ (step_at steps number.0).up = ap (λ j. (step_at steps j).down) number.2 ∙ back.down in
+              let down : (step_at steps k).down ≡ (along_at steps number.0).up = ap (λ j. (step_at steps j).down) number.2 ∙ back.down in
               omega (arith, just, from, to, down, up)
         ]
       where

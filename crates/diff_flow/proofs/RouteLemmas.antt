@@ -1,5 +1,5 @@
 -- Amounts on their way.
-use Rattle.std.proofs.Common.{◌≡◌, ℕ, ◌+◌, ◌-◌, ◌<◌, ◌≤◌, inl, inr, pos, List, length, get_or, set, refl, sym, ap, subst, ◌∙◌, arith}
+use Rattle.std.proofs.Common.{◌≡◌, ℕ, ◌+◌, ◌-◌, ◌*◌, ◌<◌, ◌≤◌, ◌⊎◌, inl, inr, pos, List, length, get_or, set, refl, sym, ap, subst, ◌∙◌, arith}
 use Rattle.std.specs.Prelude.{◌+ℤ◌, ◌-ℤ◌}
 use Rattle.std.proofs.lemmas.Int.{ints}
 use Rattle.std.proofs.lemmas.Bool.{cases_eq, cases_lt}
@@ -7,13 +7,14 @@ use Rattle.std.proofs.lemmas.List.{get_or-set_same, get_or-set_other}
 use Rattle.compact_types.proofs.Laws.{sum_to-changed}
 use Rattle.shape_graphs.specs.Flows.{amount_at, at_node}
 use Rattle.diff_flow.specs.declared.steps.Step.{Step}
-use Rattle.diff_flow.specs.declared.search.Reached.{Reached}
-use Rattle.diff_flow.specs.inner.Steps.{step_at, ArePaired}
+use Rattle.diff_flow.specs.declared.tree.Reached.{Reached}
+use Rattle.diff_flow.specs.inner.Steps.{step_at, along_at, ArePaired}
 use Rattle.diff_flow.specs.inner.Numbers.{height}
 use Rattle.diff_flow.specs.inner.Search.{entry_at, step_of, IsTree}
 use Rattle.diff_flow.specs.inner.Routing.{net_by, IsSpread, IsSent, IsMoved}
 use Rattle.diff_flow.proofs.Duality.{at_same, at_other}
 use Rattle.diff_flow.proofs.FlowLemmas.{at_cases}
+use Rattle.diff_flow.proofs.StepLemmas.{by_direction}
 
 -- what a node has after a change
 pub set_more : (xs : List ℕ) (i v a : ℕ) → i < length xs →
@@ -49,11 +50,11 @@ set_less xs i v a inside some =
 -- what comes in at a node where one amount is another
 pub net_changed : (arcs : ℕ) (steps : List Step) (amounts amounts' : List ℕ) (i v : ℕ) → i < arcs →
     ((j : ℕ) → (j ≡ i → ⊥) → amount_at amounts' j ≡ amount_at amounts j) →
-    net_by steps arcs amounts' v +ℤ (at_node (step_at steps i).to v (pos (amount_at amounts i)) -ℤ at_node (step_at steps i).from v (pos (amount_at amounts i)))
-    ≡ net_by steps arcs amounts v +ℤ (at_node (step_at steps i).to v (pos (amount_at amounts' i)) -ℤ at_node (step_at steps i).from v (pos (amount_at amounts' i)))
+    net_by steps arcs amounts' v +ℤ (at_node (along_at steps i).to v (pos (amount_at amounts i)) -ℤ at_node (along_at steps i).from v (pos (amount_at amounts i)))
+    ≡ net_by steps arcs amounts v +ℤ (at_node (along_at steps i).to v (pos (amount_at amounts' i)) -ℤ at_node (along_at steps i).from v (pos (amount_at amounts' i)))
 net_changed arcs steps amounts amounts' i v inside others =
     sum_to-changed _ _ arcs i inside (λ j below apart.
-    ap (λ x. at_node (step_at steps j).to v (pos x) -ℤ at_node (step_at steps j).from v (pos x)) (others j apart))
+    ap (λ x. at_node (along_at steps j).to v (pos x) -ℤ at_node (along_at steps j).from v (pos x)) (others j apart))
 
 at_none : (a b : ℕ) → at_node a b (pos 0) ≡ pos 0
 at_none a b = at_cases a b (λ f. f (pos 0) ≡ pos 0) refl refl
@@ -63,7 +64,7 @@ at_sum a b x y z e = at_cases a b (λ f. f (pos z) ≡ f (pos x) +ℤ f (pos y))
 
 -- an amount that is dropped is in excess where its arc begins, and lacking where it ends
 pub kept_dropped : (nodes arcs : ℕ) (steps : List Step) (given amounts over want : List ℕ) (i from to : ℕ) →
-    i < arcs → length amounts ≡ arcs → from ≡ (step_at steps i).from → to ≡ (step_at steps i).to → from < length over → to < length want →
+    i < arcs → length amounts ≡ arcs → from ≡ (along_at steps i).from → to ≡ (along_at steps i).to → from < length over → to < length want →
     IsSpread nodes arcs steps given amounts over want →
     IsSpread nodes arcs steps given (set amounts i 0) (set over from (get_or over from 0 + get_or amounts i 0))
     (set want to (get_or want to 0 + get_or amounts i 0))
@@ -71,15 +72,15 @@ kept_dropped nodes arcs steps given amounts over want i from to inside all is_fr
     let before = spread v v_in in
     let changed = net_changed arcs steps amounts (set amounts i 0) i v inside (λ j apart. get_or-set_other amounts i j 0 0 apart) in
     let none : get_or (set amounts i 0) i 0 ≡ 0 = get_or-set_same amounts i 0 0 (omega arith) in
-    let none_to : at_node (step_at steps i).to v (pos (amount_at (set amounts i 0) i)) ≡ pos 0 =
-    ap (λ x. at_node (step_at steps i).to v (pos x)) none ∙ at_none _ v in
-    let none_from : at_node (step_at steps i).from v (pos (amount_at (set amounts i 0) i)) ≡ pos 0 =
-    ap (λ x. at_node (step_at steps i).from v (pos x)) none ∙ at_none _ v in
+    let none_to : at_node (along_at steps i).to v (pos (amount_at (set amounts i 0) i)) ≡ pos 0 =
+    ap (λ x. at_node (along_at steps i).to v (pos x)) none ∙ at_none _ v in
+    let none_from : at_node (along_at steps i).from v (pos (amount_at (set amounts i 0) i)) ≡ pos 0 =
+    ap (λ x. at_node (along_at steps i).from v (pos x)) none ∙ at_none _ v in
     let more_over = set_more over from v (get_or amounts i 0) from_in in
     let more_want = set_more want to v (get_or amounts i 0) to_in in
-    let at_from : at_node from v (pos (get_or amounts i 0)) ≡ at_node (step_at steps i).from v (pos (get_or amounts i 0)) =
+    let at_from : at_node from v (pos (get_or amounts i 0)) ≡ at_node (along_at steps i).from v (pos (get_or amounts i 0)) =
     ap (λ w. at_node w v (pos (get_or amounts i 0))) is_from in
-    let at_to : at_node to v (pos (get_or amounts i 0)) ≡ at_node (step_at steps i).to v (pos (get_or amounts i 0)) =
+    let at_to : at_node to v (pos (get_or amounts i 0)) ≡ at_node (along_at steps i).to v (pos (get_or amounts i 0)) =
     ap (λ w. at_node w v (pos (get_or amounts i 0))) is_to in
     omega (arith, ints, before, changed, none_to, none_from, more_over, more_want, at_from, at_to)
 
@@ -98,32 +99,44 @@ kept_moved nodes arcs steps amount start goal numbers given amounts amounts' ove
 
 -- steps by their direction
 module _ (arcs : ℕ) (steps : List Step) (paired : ArePaired arcs steps) where
-  pub along_number : (k : ℕ) → k < length steps → 0 < (step_at steps k).up → (k < arcs) × ((step_at steps k).arc ≡ k)
+  -- which step it is
+  pub by_arc : (k : ℕ) → k < length steps → (i : ℕ) × (i < arcs) × ((2 * i ≡ k) ⊎ (2 * i + 1 ≡ k))
+  by_arc k inside =
+      by_direction (λ j. (i : ℕ) × (i < arcs) × ((2 * i ≡ j) ⊎ (2 * i + 1 ≡ j))) arcs k (omega (arith, paired.two_for_each))
+      (λ i i_in. (i, i_in, inl refl)) (λ i i_in. (i, i_in, inr refl))
+
+  pub along_number : (k : ℕ) → k < length steps → 0 < (step_at steps k).up → (i : ℕ) × (i < arcs) × (k ≡ 2 * i) × ((step_at steps k).arc ≡ i)
   along_number k inside some =
-      elim (cases_lt k arcs) [
-        | inl before ↦ (before, paired.number k before)
-        | inr behind ↦
-            let place : arcs + (k - arcs) ≡ k = omega arith in
-            let none : (step_at steps k).up ≡ 0 = rw place at (paired.back (k - arcs) (omega (arith, paired.two_for_each))).up in
+      let is = by_arc k inside in
+      elim is.2 [
+        | inl even ↦ (is.0, is.1, sym even, subst (λ j. (step_at steps j).arc ≡ is.0) even (paired.number is.0 is.1))
+        | inr odd ↦
+            let none : (step_at steps k).up ≡ 0 = subst (λ j. (step_at steps j).up ≡ 0) odd (paired.back is.0 is.1).up in
             absurd (omega (arith, none, some))
       ]
 
-  pub against_number : (k : ℕ) → k < length steps → (step_at steps k).up ≡ 0 → (i : ℕ) × (i < arcs) × (k ≡ arcs + i) × ((step_at steps k).arc ≡ i)
+  pub against_number : (k : ℕ) → k < length steps → (step_at steps k).up ≡ 0 → (i : ℕ) × (i < arcs) × (k ≡ 2 * i + 1) × ((step_at steps k).arc ≡ i)
   against_number k inside none =
-      elim (cases_lt k arcs) [
-        | inl before ↦ absurd (omega (arith, paired.up k before, none))
-        | inr behind ↦
-            let place : arcs + (k - arcs) ≡ k = omega arith in
-            let i_in : k - arcs < arcs = omega (arith, paired.two_for_each) in
-            let arc : (step_at steps k).arc ≡ (step_at steps (k - arcs)).arc = rw place at (paired.back (k - arcs) i_in).arc in
-            (k - arcs, i_in, sym place, arc ∙ paired.number (k - arcs) i_in)
+      let is = by_arc k inside in
+      elim is.2 [
+        | inl even ↦
+            let some : 0 < (step_at steps k).up = subst (λ j. 0 < (step_at steps j).up) even (paired.up is.0 is.1) in
+            absurd (omega (arith, some, none))
+        | inr odd ↦ (
+          is.0,
+          is.1,
+          sym odd,
+          subst (λ j. (step_at steps j).arc ≡ is.0) odd ((paired.back is.0 is.1).arc ∙ paired.number is.0 is.1),
+        )
       ]
 
   -- two steps over one arc in one direction are one
   pub one_along : (k l : ℕ) → k < length steps → l < length steps → 0 < (step_at steps k).up → 0 < (step_at steps l).up →
       (step_at steps k).arc ≡ (step_at steps l).arc → k ≡ l
   one_along k l k_in l_in k_up l_up same =
-      omega (arith, (along_number k k_in k_up).1, (along_number l l_in l_up).1, same)
+      let a = along_number k k_in k_up in
+      let b = along_number l l_in l_up in
+      omega (arith, a.2, a.3, b.2, b.3, same)
 
   pub one_against : (k l : ℕ) → k < length steps → l < length steps → (step_at steps k).up ≡ 0 → (step_at steps l).up ≡ 0 →
       (step_at steps k).arc ≡ (step_at steps l).arc → k ≡ l
@@ -140,25 +153,30 @@ module _ (arcs : ℕ) (steps : List Step) (paired : ArePaired arcs steps) where
       elim (cases_lt 0 (step_at steps k).up) [
         | inl some ↦
             let number = along_number k inside some in
-            let is : amount_at amounts' k ≡ amount_at amounts k + amount = rw number.1 at (sent.along some) in
-            let changed = net_changed arcs steps amounts amounts' k v number.0 (λ j apart. sent.others j (λ e. apart (e ∙ number.1))) in
-            let to = at_sum (step_at steps k).to v (amount_at amounts k) amount (amount_at amounts' k) is in
-            let from = at_sum (step_at steps k).from v (amount_at amounts k) amount (amount_at amounts' k) is in
-            omega (arith, ints, changed, to, from)
+            let arc : (step_at steps k).arc ≡ number.0 = number.3 in
+            let is : amount_at amounts' number.0 ≡ amount_at amounts number.0 + amount =
+            subst (λ j. amount_at amounts' j ≡ amount_at amounts j + amount) arc (sent.along some) in
+            let changed = net_changed arcs steps amounts amounts' number.0 v number.1 (λ j apart. sent.others j (λ e. apart (e ∙ arc))) in
+            let to = at_sum (along_at steps number.0).to v (amount_at amounts number.0) amount (amount_at amounts' number.0) is in
+            let from = at_sum (along_at steps number.0).from v (amount_at amounts number.0) amount (amount_at amounts' number.0) is in
+            let step_from : at_node (step_at steps k).from v (pos amount) ≡ at_node (along_at steps number.0).from v (pos amount) =
+            ap (λ j. at_node (step_at steps j).from v (pos amount)) number.2 in
+            let step_to : at_node (step_at steps k).to v (pos amount) ≡ at_node (along_at steps number.0).to v (pos amount) =
+            ap (λ j. at_node (step_at steps j).to v (pos amount)) number.2 in
+            omega (arith, ints, changed, to, from, step_from, step_to)
         | inr none ↦
             let up : (step_at steps k).up ≡ 0 = omega arith in
             let number = against_number k inside up in
-            let i = number.0 in
             let arc : (step_at steps k).arc ≡ number.0 = number.3 in
             let is : amount_at amounts' number.0 + amount ≡ amount_at amounts number.0 =
             subst (λ j. amount_at amounts' j + amount ≡ amount_at amounts j) arc (sent.against up) in
             let changed = net_changed arcs steps amounts amounts' number.0 v number.1 (λ j apart. sent.others j (λ e. apart (e ∙ arc))) in
-            let to = at_sum (step_at steps number.0).to v (amount_at amounts' number.0) amount (amount_at amounts number.0) (sym is) in
-            let from = at_sum (step_at steps number.0).from v (amount_at amounts' number.0) amount (amount_at amounts number.0) (sym is) in
+            let to = at_sum (along_at steps number.0).to v (amount_at amounts' number.0) amount (amount_at amounts number.0) (sym is) in
+            let from = at_sum (along_at steps number.0).from v (amount_at amounts' number.0) amount (amount_at amounts number.0) (sym is) in
             let back = paired.back number.0 number.1 in
-            let step_from : at_node (step_at steps k).from v (pos amount) ≡ at_node (step_at steps number.0).to v (pos amount) =
+            let step_from : at_node (step_at steps k).from v (pos amount) ≡ at_node (along_at steps number.0).to v (pos amount) =
             ap (λ j. at_node (step_at steps j).from v (pos amount)) number.2 ∙ ap (λ w. at_node w v (pos amount)) back.from in
-            let step_to : at_node (step_at steps k).to v (pos amount) ≡ at_node (step_at steps number.0).from v (pos amount) =
+            let step_to : at_node (step_at steps k).to v (pos amount) ≡ at_node (along_at steps number.0).from v (pos amount) =
             ap (λ j. at_node (step_at steps j).to v (pos amount)) number.2 ∙ ap (λ w. at_node w v (pos amount)) back.to in
             omega (arith, ints, changed, to, from, step_from, step_to)
       ]
@@ -172,7 +190,7 @@ pub record IsSending (nodes arcs : ℕ) (steps : List Step) (amount : ℕ) (numb
   pub net : (v : ℕ) → v < nodes → net_by steps arcs amounts v +ℤ at_node (entry_at tree at).node v (pos amount)
       ≡ net_by steps arcs old v +ℤ at_node (entry_at tree (length tree - 1)).node v (pos amount)
   pub tight : (i : ℕ) → i < arcs → amount_at old i < amount_at amounts i →
-      height numbers (step_at steps i).to ≡ height numbers (step_at steps i).from + (step_at steps i).up
+      height numbers (along_at steps i).to ≡ height numbers (along_at steps i).from + (along_at steps i).up
   pub most : (i : ℕ) → i < arcs → amount_at amounts i ≤ amount_at old i + amount
   pub fresh : (j : ℕ) → 0 < j → j ≤ at → 0 < (step_of steps tree j).up →
       amount_at amounts (step_of steps tree j).arc ≤ amount_at old (step_of steps tree j).arc
@@ -225,7 +243,8 @@ module _ (nodes arcs : ℕ) (steps : List Step) (amount : ℕ) (numbers : List �
         elim (cases_eq i (step_of steps tree at).arc) [
           | inl here ↦ elim (cases_lt 0 (step_of steps tree at).up) [
             | inl up ↦
-                let number : (entry_at tree at).step ≡ i = sym (along_number arcs steps paired (entry_at tree at).step is.inside up).1 ∙ sym here in
+                let along = along_number arcs steps paired (entry_at tree at).step is.inside up in
+                let number : (entry_at tree at).step ≡ 2 * i = along.2 ∙ ap (λ j. 2 * j) (sym along.3 ∙ sym here) in
                 subst (λ k. height numbers (step_at steps k).to ≡ height numbers (step_at steps k).from + (step_at steps k).up) number
                 (is.passable.along up)
             | inr down ↦

@@ -1,26 +1,76 @@
 -- Steps of a graph, and rows of them.
-use Rattle.std.proofs.Common.{◌≡◌, ℕ, ◌+◌, ◌-◌, ◌<◌, ◌≤◌, inl, inr, List, [], ◌∷◌, ◌++◌, length, get_or, set, refl, sym, ap, subst, ◌∙◌, arith, pos, replicate}
+use Rattle.std.proofs.Common.{◌≡◌, ℕ, zero, suc, ◌+◌, ◌-◌, ◌*◌, ◌<◌, ◌≤◌, ◌⊎◌, inl, inr, List, [], ◌∷◌, ◌++◌, length, get_or, set, refl, sym, ap, subst, ◌∙◌, arith, pos, replicate}
 use Rattle.std.specs.Prelude.{◌≤ℤ◌}
 use Rattle.std.proofs.lemmas.Int.{ints}
 use Rattle.std.proofs.lemmas.Bool.{cases_lt}
-use Rattle.std.proofs.lemmas.List.{length-set, length_push, get_or-replicate, length-replicate}
+use Rattle.std.proofs.lemmas.List.{length-set, length_push, length-append, get_or_append_left, get_or-append_right, get_or_push, get_or-replicate, length-replicate}
 use Rattle.shape_graphs.specs.declared.graph.Arc.{Arc}
-use Rattle.shape_graphs.specs.Arcs.{arc_at, EndsAreNodes}
+use Rattle.shape_graphs.specs.Arcs.{arc_at, no_arc, EndsAreNodes}
 use Rattle.diff_flow.specs.declared.steps.Step.{Step}
-use Rattle.diff_flow.specs.inner.Steps.{step_at, IsStepWithin, AreStepsWithin, AreRows, IsAlong, IsAgainst, AreStepsOf}
+use Rattle.diff_flow.specs.inner.Steps.{step_at, no_step, along_at, against_at, AreOneMore, IsStepWithin, AreStepsWithin, AreRows, IsAlong, IsAgainst, AreStepsOf}
 use Rattle.diff_flow.proofs.SetLemmas.{by_write, by_push}
 
--- what holds of the steps along the arcs and of those against them holds of all steps
-pub by_direction : (P : ℕ → Type 0) (m k : ℕ) → k < m + m → (k < m → P k) → ((i : ℕ) → i < m → P (m + i)) → P k
-by_direction P m k inside front back =
-    elim (cases_lt k m) [
-      | inl before ↦ front before
-      | inr behind ↦
-          let place : m + (k - m) ≡ k = omega arith in
-          subst P place (back (k - m) (omega arith))
+-- a number is twice another, or one more
+pub halves : (k : ℕ) → (i : ℕ) × ((2 * i ≡ k) ⊎ (2 * i + 1 ≡ k))
+halves zero = (0, inl refl)
+halves (suc k) =
+    let half = halves k in
+    elim half.1 [
+      | inl even ↦ (half.0, inr (omega (arith, even)))
+      | inr odd ↦ (half.0 + 1, inl (omega (arith, odd)))
     ]
 
-along_within : (arc : Arc) (nodes arcs reach i : ℕ) (step : Step) → IsAlong arc i step → arc.from < nodes → arc.to < nodes →
+-- what holds of the steps along the arcs and of those against them holds of all steps
+pub by_direction : (P : ℕ → Type 0) (m k : ℕ) → k < 2 * m → ((i : ℕ) → i < m → P (2 * i)) → ((i : ℕ) → i < m → P (2 * i + 1)) → P k
+by_direction P m k inside front back =
+    let half = halves k in
+    elim half.1 [
+      | inl even ↦ subst P even (front half.0 (omega (arith, even)))
+      | inr odd ↦ subst P odd (back half.0 (omega (arith, odd)))
+    ]
+
+-- the list with two more at the end
+pub before_two : (steps : List Step) (a b : Step) (k : ℕ) → k < length steps → step_at (steps ++ a ∷ b ∷ []) k ≡ step_at steps k
+before_two steps a b k inside = get_or_append_left steps (a ∷ b ∷ []) no_step k inside
+
+pub first_of_two : (steps : List Step) (a b : Step) (k : ℕ) → k ≡ length steps → step_at (steps ++ a ∷ b ∷ []) k ≡ a
+first_of_two steps a b k here =
+    let place : k - length steps ≡ 0 = omega (arith, here) in
+    get_or-append_right steps (a ∷ b ∷ []) (length steps) k no_step refl (omega (arith, here)) ∙ ap (step_at (a ∷ b ∷ [])) place
+
+pub second_of_two : (steps : List Step) (a b : Step) (k : ℕ) → k ≡ length steps + 1 → step_at (steps ++ a ∷ b ∷ []) k ≡ b
+second_of_two steps a b k here =
+    let place : k - length steps ≡ 1 = omega (arith, here) in
+    get_or-append_right steps (a ∷ b ∷ []) (length steps) k no_step refl (omega (arith, here)) ∙ ap (step_at (a ∷ b ∷ [])) place
+
+-- the steps of the arcs with one arc more
+pub steps_more : (arcs : List Arc) (arc : Arc) (i : ℕ) (steps steps' : List Step) → i ≡ length arcs → AreStepsOf arcs steps →
+    AreOneMore arc i steps steps' → AreStepsOf (arcs ++ arc ∷ []) steps'
+steps_more arcs arc i steps steps' last are more = subst (AreStepsOf (arcs ++ arc ∷ [])) (sym more.grown) (record {
+  two_for_each = omega (arith, are.two_for_each, length_push arcs arc, length-append steps (more.there ∷ more.back ∷ []));
+  along = λ k inside. elim (cases_lt k (length arcs)) [
+    | inl front ↦ subst (λ (a : Arc). IsAlong a k (along_at (steps ++ more.there ∷ more.back ∷ []) k)) (sym (get_or_append_left arcs (arc ∷ []) no_arc k front))
+        (subst (IsAlong (arc_at arcs k) k) (sym (before_two steps more.there more.back (2 * k) (omega (arith, front, are.two_for_each)))) (are.along k front))
+    | inr back ↦
+        let here : k ≡ length arcs = omega (arith, back, inside, length_push arcs arc) in
+        let is : i ≡ k = last ∙ sym here in
+        subst (λ (a : Arc). IsAlong a k (along_at (steps ++ more.there ∷ more.back ∷ []) k)) (sym (get_or_push arcs arc no_arc k (sym here)))
+        (subst (IsAlong arc k) (sym (first_of_two steps more.there more.back (2 * k) (omega (arith, here, are.two_for_each))))
+        (subst (λ j. IsAlong arc j more.there) is more.along))
+  ];
+  against = λ k inside. elim (cases_lt k (length arcs)) [
+    | inl front ↦ subst (λ (a : Arc). IsAgainst a k (against_at (steps ++ more.there ∷ more.back ∷ []) k)) (sym (get_or_append_left arcs (arc ∷ []) no_arc k front))
+        (subst (IsAgainst (arc_at arcs k) k) (sym (before_two steps more.there more.back (2 * k + 1) (omega (arith, front, are.two_for_each)))) (are.against k front))
+    | inr back ↦
+        let here : k ≡ length arcs = omega (arith, back, inside, length_push arcs arc) in
+        let is : i ≡ k = last ∙ sym here in
+        subst (λ (a : Arc). IsAgainst a k (against_at (steps ++ more.there ∷ more.back ∷ []) k)) (sym (get_or_push arcs arc no_arc k (sym here)))
+        (subst (IsAgainst arc k) (sym (second_of_two steps more.there more.back (2 * k + 1) (omega (arith, here, are.two_for_each))))
+        (subst (λ j. IsAgainst arc j more.back) is more.against))
+  ];
+})
+
+pub along_within : (arc : Arc) (nodes arcs reach i : ℕ) (step : Step) → IsAlong arc i step → arc.from < nodes → arc.to < nodes →
     i < arcs → arc.least ≤ℤ pos reach → IsStepWithin nodes arcs reach step
 along_within arc nodes arcs reach i step is from to inside low = record {
   from = omega (arith, is.from);
@@ -30,7 +80,7 @@ along_within arc nodes arcs reach i step is from to inside low = record {
   down = omega (arith, is.down);
 }
 
-against_within : (arc : Arc) (nodes arcs reach i : ℕ) (step : Step) → IsAgainst arc i step → arc.from < nodes → arc.to < nodes →
+pub against_within : (arc : Arc) (nodes arcs reach i : ℕ) (step : Step) → IsAgainst arc i step → arc.from < nodes → arc.to < nodes →
     i < arcs → arc.least ≤ℤ pos reach → IsStepWithin nodes arcs reach step
 against_within arc nodes arcs reach i step is from to inside low = record {
   from = omega (arith, is.from);
@@ -44,7 +94,7 @@ pub steps_within : (nodes reach m : ℕ) (arcs : List Arc) (steps : List Step) �
     m ≡ length arcs → ((i : ℕ) → i < length arcs → (arc_at arcs i).least ≤ℤ pos reach) → AreStepsWithin nodes m reach steps
 steps_within nodes reach m arcs steps are ends all low k inside =
     by_direction (λ j. IsStepWithin nodes m reach (step_at steps j)) (length arcs) k (omega (arith, are.two_for_each))
-    (λ front. along_within (arc_at arcs k) nodes m reach k _ (are.along k front) (ends k front).0 (ends k front).1 (omega arith) (low k front))
+    (λ i front. along_within (arc_at arcs i) nodes m reach i _ (are.along i front) (ends i front).0 (ends i front).1 (omega arith) (low i front))
     (λ i back. against_within (arc_at arcs i) nodes m reach i _ (are.against i back) (ends i back).0 (ends i back).1 (omega arith) (low i back))
 
 none : (nodes v : ℕ) → v < nodes → get_or (replicate {A = ℕ} nodes 0) v 0 ≡ 0

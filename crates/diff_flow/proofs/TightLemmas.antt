@@ -9,7 +9,7 @@ use Rattle.shape_graphs.specs.Flows.{amount_at, over}
 use Rattle.shape_graphs.specs.Flows.{number_at}
 use Rattle.diff_flow.specs.Tight.{AreTight, AreLeastTight}
 use Rattle.diff_flow.specs.declared.steps.Step.{Step}
-use Rattle.diff_flow.specs.inner.Steps.{step_at, IsAlong, IsAgainst, AreStepsOf, IsOpen, Meets, AreMet}
+use Rattle.diff_flow.specs.inner.Steps.{step_at, along_at, against_at, IsAlong, IsAgainst, AreStepsOf, IsOpen, Meets, AreMet}
 use Rattle.diff_flow.specs.inner.Numbers.{height, AreLeastMet, NoneMeet}
 use Rattle.diff_flow.proofs.StepLemmas.{by_direction}
 use Rattle.diff_flow.proofs.Gaps.{closed, closed_most, closed_keeps, all_covered}
@@ -34,8 +34,8 @@ module _ (nodes : ℕ) (arcs : List Arc) (steps : List Step) (amounts : List ℕ
   pub met_where_tight : (p : ℕ → ℤ) → AreTight nodes arcs amounts p → AreMet steps amounts (λ v. nat (p v))
   met_where_tight p tight k inside opens =
       by_direction (λ j. IsOpen amounts (step_at steps j) → Meets (λ v. nat (p v)) (step_at steps j)) (length arcs) k (omega (arith, are.two_for_each))
-      (λ front _. along (are.along k front) (tight.solution k front)
-      (tight.from_zero _ (ends k front).0) (tight.from_zero _ (ends k front).1))
+      (λ i front _. along (are.along i front) (tight.solution i front)
+      (tight.from_zero _ (ends i front).0) (tight.from_zero _ (ends i front).1))
       (λ i back some. against (are.against i back) (λ more. tight.tight i back more)
       (tight.from_zero _ (ends i back).0) (tight.from_zero _ (ends i back).1) some)
       opens
@@ -67,12 +67,12 @@ module _ (nodes : ℕ) (arcs : List Arc) (steps : List Step) (amounts : List ℕ
     solution = λ i inside. solved i inside;
     tight = λ i inside some.
         let least = solved i inside in
-        let step = step_at steps (length arcs + i) in
+        let step = against_at steps i in
         let is = are.against i inside in
-        let same : amount_at amounts (step_at steps (length arcs + i)).arc ≡ amount_at amounts i = ap (amount_at amounts) is.number in
-        let kept = met (length arcs + i) (omega (arith, are.two_for_each)) (omega (arith, same, some)) in
-        let a : h (step_at steps (length arcs + i)).from ≡ h (arc_at arcs i).to = ap h is.from in
-        let b : h (step_at steps (length arcs + i)).to ≡ h (arc_at arcs i).from = ap h is.to in
+        let same : amount_at amounts (against_at steps i).arc ≡ amount_at amounts i = ap (amount_at amounts) is.number in
+        let kept = met (2 * i + 1) (omega (arith, are.two_for_each)) (omega (arith, same, some)) in
+        let a : h (against_at steps i).from ≡ h (arc_at arcs i).to = ap h is.from in
+        let b : h (against_at steps i).to ≡ h (arc_at arcs i).from = ap h is.to in
         omega (arith, ints, kept, a, b, is.up, is.down, least);
   }
     where
@@ -80,9 +80,9 @@ module _ (nodes : ℕ) (arcs : List Arc) (steps : List Step) (amounts : List ℕ
       solved i inside =
           let is = are.along i inside in
           let some = (within i inside).some_least in
-          let kept = met i (omega (arith, are.two_for_each)) (omega (arith, ints, is.up, some)) in
-          let a : h (step_at steps i).from ≡ h (arc_at arcs i).from = ap h is.from in
-          let b : h (step_at steps i).to ≡ h (arc_at arcs i).to = ap h is.to in
+          let kept = met (2 * i) (omega (arith, are.two_for_each)) (omega (arith, ints, is.up, some)) in
+          let a : h (along_at steps i).from ≡ h (arc_at arcs i).from = ap h is.from in
+          let b : h (along_at steps i).to ≡ h (arc_at arcs i).to = ap h is.to in
           omega (arith, ints, kept, a, b, is.up, is.down)
 
   pub none_tight : NoneMeet steps amounts → (p : ℕ → ℤ) → AreTight nodes arcs amounts p → ⊥

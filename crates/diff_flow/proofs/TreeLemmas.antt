@@ -7,7 +7,7 @@ use Rattle.std.proofs.lemmas.List.{length-set, get_or_append_left, get_or_push, 
 use Rattle.std.proofs.lemmas.List.Sums.{sum_by-set, sum_by-le}
 use Rattle.shape_graphs.specs.Flows.{amount_at}
 use Rattle.diff_flow.specs.declared.steps.Step.{Step}
-use Rattle.diff_flow.specs.declared.search.Reached.{Reached}
+use Rattle.diff_flow.specs.declared.tree.Reached.{Reached}
 use Rattle.diff_flow.specs.inner.Steps.{step_at, AreStepsWithin, AreRows}
 use Rattle.diff_flow.specs.inner.Numbers.{height}
 use Rattle.diff_flow.specs.inner.Search.{no_entry, entry_at, step_of, IsPassable, IsRoom, IsReached, IsTree, ArePlaced, IsBlank, Raises, Grows, IsEntered, NoneLacks, IsFound, Searches, IsPassed, ArePassedFrom, ArePassed}

@@ -3,28 +3,29 @@ use Rattle.std.proofs.Common.{◌≡◌, ℕ, zero, suc, ◌+◌, ◌-◌, ◌*�
 use Rattle.std.proofs.lemmas.Bool.{cases_eq, cases_lt, ltb-true, ltb-false}
 use Rattle.shape_graphs.specs.Flows.{amount_at}
 use Rattle.diff_flow.specs.declared.steps.Step.{Step}
-use Rattle.diff_flow.specs.declared.search.Reached.{Reached}
-use Rattle.diff_flow.specs.declared.search.Leaving.{Leaving}
-use Rattle.diff_flow.specs.inner.Steps.{step_at, AreStepsWithin, AreRows, ArePaired, IsOpen, Meets, AreMet}
+use Rattle.diff_flow.specs.declared.tree.Reached.{Reached}
+use Rattle.diff_flow.specs.declared.leaving.Leaving.{Leaving}
+use Rattle.diff_flow.specs.inner.Steps.{step_at, along_at, against_at, AreStepsWithin, AreRows, ArePaired, IsOpen, Meets, AreMet}
 use Rattle.diff_flow.specs.inner.Numbers.{height}
 use Rattle.diff_flow.specs.inner.Search.{entry_at, step_of, AreFit, IsPassable, IsTree, ArePlaced, NoneLacks, IsPassed, ArePassed, IsLeaving, IsSeen, IsSeenBefore, IsLeastLeaving, IsLesser, Grows, Raises, IsTrap}
 use Rattle.diff_flow.proofs.Gaps.{closed_most, uncovered}
 use Rattle.diff_flow.proofs.StepLemmas.{by_direction}
+use Rattle.diff_flow.proofs.RouteLemmas.{along_number}
 
 -- along the arcs the numbers meet every step
 pub met_along : (arcs : ℕ) (steps : List Step) (amounts numbers : List ℕ) → ArePaired arcs steps → AreMet steps amounts (height numbers) →
-    (k : ℕ) → k < arcs → height numbers (step_at steps k).from + (step_at steps k).up ≤ height numbers (step_at steps k).to
+    (k : ℕ) → k < arcs → height numbers (along_at steps k).from + (along_at steps k).up ≤ height numbers (along_at steps k).to
 met_along arcs steps amounts numbers paired met k inside =
     let ups = paired.up k inside in
-    let meets = met k (omega (arith, paired.two_for_each)) (omega arith) in
+    let meets = met (2 * k) (omega (arith, paired.two_for_each)) (omega arith) in
     omega (arith, meets, paired.level k inside)
 
 -- a step against an arc with an amount can be passed
 back_open : (arcs : ℕ) (steps : List Step) (amounts numbers : List ℕ) → ArePaired arcs steps → (i : ℕ) → i < arcs → 0 < amount_at amounts i →
-    IsPassable amounts numbers (step_at steps (arcs + i))
+    IsPassable amounts numbers (against_at steps i)
 back_open arcs steps amounts numbers paired i inside some =
     let back = paired.back i inside in
-    let number : (step_at steps (arcs + i)).arc ≡ i = back.arc ∙ paired.number i inside in
+    let number : (against_at steps i).arc ≡ i = back.arc ∙ paired.number i inside in
     record {
       along = λ ups. absurd (omega (arith, back.up));
       against = λ _. subst (λ j. 0 < amount_at amounts j) (sym number) some;
@@ -32,20 +33,20 @@ back_open arcs steps amounts numbers paired i inside some =
 
 -- and is open
 back_is_open : (arcs : ℕ) (steps : List Step) (amounts : List ℕ) → ArePaired arcs steps → (i : ℕ) → i < arcs → 0 < amount_at amounts i →
-    IsOpen amounts (step_at steps (arcs + i))
+    IsOpen amounts (against_at steps i)
 back_is_open arcs steps amounts paired i inside some =
     let back = paired.back i inside in
-    let number : (step_at steps (arcs + i)).arc ≡ i = back.arc ∙ paired.number i inside in
-    let there : 0 < amount_at amounts (step_at steps (arcs + i)).arc = subst (λ j. 0 < amount_at amounts j) (sym number) some in
+    let number : (against_at steps i).arc ≡ i = back.arc ∙ paired.number i inside in
+    let there : 0 < amount_at amounts (against_at steps i).arc = subst (λ j. 0 < amount_at amounts j) (sym number) some in
     omega (arith, there)
 
 -- only arcs with an amount have an open step against them
 back_some : (arcs : ℕ) (steps : List Step) (amounts : List ℕ) → ArePaired arcs steps → (i : ℕ) → i < arcs →
-    IsOpen amounts (step_at steps (arcs + i)) → 0 < amount_at amounts i
+    IsOpen amounts (against_at steps i) → 0 < amount_at amounts i
 back_some arcs steps amounts paired i inside opens =
     let back = paired.back i inside in
-    let number : (step_at steps (arcs + i)).arc ≡ i = back.arc ∙ paired.number i inside in
-    let there : 0 < amount_at amounts (step_at steps (arcs + i)).arc = omega (arith, opens, back.up) in
+    let number : (against_at steps i).arc ≡ i = back.arc ∙ paired.number i inside in
+    let there : 0 < amount_at amounts (against_at steps i).arc = omega (arith, opens, back.up) in
     subst (λ j. 0 < amount_at amounts j) number there
 
 -- where the steps of all reached nodes are passed
@@ -61,26 +62,29 @@ module _ (nodes arcs reach : ℕ) (steps : List Step) (amounts numbers want : Li
       (sym (is.placed (step_at steps k).from v_in reached))
 
   -- an arc with an amount begins at a reached node where it ends at one
-  pub begins_reached : (k : ℕ) → k < arcs → 0 < amount_at amounts k → 0 < slice_index places (step_at steps k).to →
-      0 < slice_index places (step_at steps k).from
+  pub begins_reached : (k : ℕ) → k < arcs → 0 < amount_at amounts k → 0 < slice_index places (along_at steps k).to →
+      0 < slice_index places (along_at steps k).from
   begins_reached k inside some reached =
       let back = paired.back k inside in
-      let from_reached : 0 < slice_index places (step_at steps (arcs + k)).from = subst (λ v. 0 < slice_index places v) (sym back.from) reached in
+      let from_reached : 0 < slice_index places (against_at steps k).from = subst (λ v. 0 < slice_index places v) (sym back.from) reached in
       subst (λ v. 0 < slice_index places v) back.to
-      (passed_at (arcs + k) (omega (arith, paired.two_for_each)) from_reached (back_open arcs steps amounts numbers paired k inside some))
+      (passed_at (2 * k + 1) (omega (arith, paired.two_for_each)) from_reached (back_open arcs steps amounts numbers paired k inside some))
 
   -- the reached nodes are a trap where no arc leaves them
-  pub trapped : NoneLacks want places → ((k slack : ℕ) → k < arcs → IsLeaving arcs steps numbers places k slack → ⊥) →
+  pub trapped : NoneLacks want places → ((k slack : ℕ) → k < length steps → IsLeaving steps numbers places k slack → ⊥) →
       AreMet steps amounts (height numbers) →
       IsTrap nodes arcs steps amounts want (entry_at tree 0).node (λ v. slice_index places v)
   trapped none leaves met = record {
     begins = omega (arith, is.at_place 0 is.some);
     none_lacks = λ v v_in some. none v some;
-    none_leaves = λ k inside from. elim (cases_lt 0 (slice_index places (step_at steps k).to)) [
+    none_leaves = λ k inside from. elim (cases_lt 0 (slice_index places (along_at steps k).to)) [
       | inl some ↦ some
-      | inr out ↦ absurd (leaves k (height numbers (step_at steps k).to - (height numbers (step_at steps k).from + (step_at steps k).up)) inside
+      | inr out ↦
+          let step_in : 2 * k < length steps = omega (arith, inside, paired.two_for_each) in
+          absurd (leaves (2 * k) (height numbers (along_at steps k).to - (height numbers (along_at steps k).from + (along_at steps k).up)) step_in
           (record {
-            inside = inside;
+            inside = step_in;
+            along = paired.up k inside;
             from = from;
             to = omega arith;
             just = omega (arith, met_along arcs steps amounts numbers paired met k inside);
@@ -96,8 +100,8 @@ module _ (nodes arcs reach limit : ℕ) (steps : List Step) (amounts numbers num
     (is : IsTree nodes steps amounts numbers tree places)
     (none : NoneLacks want places)
     (passed : ArePassed steps amounts numbers tree places (length tree))
-    (step slack : ℕ) (leaving : IsLeaving arcs steps numbers places step slack)
-    (least : (k other : ℕ) → k < arcs → IsLeaving arcs steps numbers places k other → slack ≤ other)
+    (step slack : ℕ) (leaving : IsLeaving steps numbers places step slack)
+    (least : (k other : ℕ) → k < length steps → IsLeaving steps numbers places k other → slack ≤ other)
     (raises : Raises places numbers numbers' slack) where
   raised_at : (v : ℕ) → v < nodes → 0 < slice_index places v → height numbers' v ≡ height numbers v + slack
   raised_at v inside reached = raises.raised v (omega (arith, fit.one_for_each)) reached
@@ -139,23 +143,23 @@ module _ (nodes arcs reach limit : ℕ) (steps : List Step) (amounts numbers num
   pub met_raised : AreMet steps amounts (height numbers')
   met_raised k inside opens =
       by_direction (λ j. j < length steps → IsOpen amounts (step_at steps j) → Meets (height numbers') (step_at steps j)) arcs k
-      (omega (arith, paired.two_for_each)) (λ front. front_met k front) back_met inside opens
+      (omega (arith, paired.two_for_each)) front_met back_met inside opens
     where
-      front_met : (k : ℕ) → k < arcs → k < length steps → IsOpen amounts (step_at steps k) → Meets (height numbers') (step_at steps k)
-      front_met k front inside opens =
-          let along = met_along arcs steps amounts numbers paired fit.met k front in
-          meets_still k inside (fit.met k inside opens)
-          (λ from to. let most = least k (height numbers (step_at steps k).to - (height numbers (step_at steps k).from + (step_at steps k).up)) front
-          (record { inside = front; from = from; to = to; just = omega arith }) in
+      front_met : (i : ℕ) → i < arcs → 2 * i < length steps → IsOpen amounts (along_at steps i) → Meets (height numbers') (along_at steps i)
+      front_met i front inside opens =
+          let along = met_along arcs steps amounts numbers paired fit.met i front in
+          meets_still (2 * i) inside (fit.met (2 * i) inside opens)
+          (λ from to. let most = least (2 * i) (height numbers (along_at steps i).to - (height numbers (along_at steps i).from + (along_at steps i).up)) inside
+          (record { inside = inside; along = paired.up i front; from = from; to = to; just = omega arith }) in
           omega arith)
 
-      back_met : (i : ℕ) → i < arcs → arcs + i < length steps → IsOpen amounts (step_at steps (arcs + i)) →
-          Meets (height numbers') (step_at steps (arcs + i))
+      back_met : (i : ℕ) → i < arcs → 2 * i + 1 < length steps → IsOpen amounts (against_at steps i) →
+          Meets (height numbers') (against_at steps i)
       back_met i front inside opens =
-          meets_still (arcs + i) inside (fit.met (arcs + i) inside opens)
+          meets_still (2 * i + 1) inside (fit.met (2 * i + 1) inside opens)
           (λ from to.
           let some = back_some arcs steps amounts paired i front opens in
-          let reached = passed_at nodes arcs reach steps amounts numbers want tree places all paired is passed (arcs + i) inside from
+          let reached = passed_at nodes arcs reach steps amounts numbers want tree places all paired is passed (2 * i + 1) inside from
           (back_open arcs steps amounts numbers paired i front some) in
           absurd (omega (arith, reached, to)))
 
@@ -201,10 +205,10 @@ module _ (nodes arcs reach limit : ℕ) (steps : List Step) (amounts numbers num
   -- the step with the least slack is tight
   pub leaving_passable : IsPassable amounts numbers' (step_at steps step)
   leaving_passable =
-      let fits = all step (omega (arith, leaving.inside, paired.two_for_each)) in
+      let fits = all step leaving.inside in
       record {
         along = λ _. omega (arith, raised_at (step_at steps step).from fits.from leaving.from, kept_at (step_at steps step).to fits.to leaving.to, leaving.just);
-        against = λ level. absurd (omega (arith, paired.up step leaving.inside));
+        against = λ level. absurd (omega (arith, level, leaving.along));
       }
 
   lacking_low : (v : ℕ) → v < nodes → 0 < slice_index want v → height numbers' v ≤ limit
@@ -220,12 +224,12 @@ module _ (nodes arcs reach limit : ℕ) (steps : List Step) (amounts numbers num
       by_direction (λ j. j < length steps → IsPassable amounts numbers' (step_at steps j) →
       height numbers' (step_at steps j).to ≤ height numbers' (step_at steps j).from + reach) arcs k
       (omega (arith, paired.two_for_each))
-      (λ front inside can. omega (arith, can.along (paired.up k front), (all k inside).up))
+      (λ i front inside can. omega (arith, can.along (paired.up i front), (all (2 * i) inside).up))
       (λ i front _ _.
       let back = paired.back i front in
       let along = met_along arcs steps amounts numbers' paired met_raised i front in
-      let end : height numbers' (step_at steps (arcs + i)).to ≡ height numbers' (step_at steps i).from = ap (height numbers') back.to in
-      let start : height numbers' (step_at steps (arcs + i)).from ≡ height numbers' (step_at steps i).to = ap (height numbers') back.from in
+      let end : height numbers' (against_at steps i).to ≡ height numbers' (along_at steps i).from = ap (height numbers') back.to in
+      let start : height numbers' (against_at steps i).from ≡ height numbers' (along_at steps i).to = ap (height numbers') back.from in
       omega (arith, along, end, start))
       inside can
 
@@ -269,13 +273,13 @@ module _ (nodes arcs reach limit : ℕ) (steps : List Step) (amounts numbers num
       ];
       none_leaves = λ k front mark. omega (arith, met_along arcs steps amounts numbers' paired met_raised k front, mark);
       none_enters = λ k front some mark.
-          let inside' : arcs + k < length steps = omega (arith, paired.two_for_each) in
+          let inside' : 2 * k + 1 < length steps = omega (arith, paired.two_for_each) in
           let back = paired.back k front in
-          let fits = all k (omega (arith, paired.two_for_each)) in
-          let meets = met_raised (arcs + k) inside' (back_is_open arcs steps amounts paired k front some) in
-          let end : height numbers' (step_at steps (arcs + k)).to ≡ height numbers' (step_at steps k).from = ap (height numbers') back.to in
-          let start : height numbers' (step_at steps (arcs + k)).from ≡ height numbers' (step_at steps k).to = ap (height numbers') back.from in
-          let up = above_near (step_at steps k).from (step_at steps k).to fits.from (omega (arith, mark))
+          let fits = all (2 * k) (omega (arith, paired.two_for_each)) in
+          let meets = met_raised (2 * k + 1) inside' (back_is_open arcs steps amounts paired k front some) in
+          let end : height numbers' (against_at steps k).to ≡ height numbers' (along_at steps k).from = ap (height numbers') back.to in
+          let start : height numbers' (against_at steps k).from ≡ height numbers' (along_at steps k).to = ap (height numbers') back.from in
+          let up = above_near (along_at steps k).from (along_at steps k).to fits.from (omega (arith, mark))
           (omega (arith, meets, end, start, back.up, back.down, fits.up)) in
           omega (arith, up);
     }
@@ -302,77 +306,88 @@ module _ (nodes arcs reach limit : ℕ) (steps : List Step) (amounts numbers num
     lacking = lacking_low;
   }
 
+-- numbers that meet all arcs meet each step along one
+pub met_step : (arcs : ℕ) (steps : List Step) (numbers : List ℕ) → ArePaired arcs steps →
+    ((i : ℕ) → i < arcs → height numbers (along_at steps i).from + (along_at steps i).up ≤ height numbers (along_at steps i).to) →
+    (k : ℕ) → k < length steps → 0 < (step_at steps k).up →
+    height numbers (step_at steps k).from + (step_at steps k).up ≤ height numbers (step_at steps k).to
+met_step arcs steps numbers paired met k inside along =
+    let number = along_number arcs steps paired k inside along in
+    subst (λ j. height numbers (step_at steps j).from + (step_at steps j).up ≤ height numbers (step_at steps j).to) (sym number.2)
+    (met number.0 number.1)
+
 -- the step just read leaves the reached nodes
-pub leaves_at : (arcs : ℕ) (steps : List Step) (numbers places : List ℕ) (k : ℕ) (step : Step) → step ≡ step_at steps k → k < arcs →
+pub leaves_at : (steps : List Step) (numbers places : List ℕ) (k : ℕ) (step : Step) → step ≡ step_at steps k → k < length steps → 0 < step.up →
     (slice_index places step.from ≡ 0 → ⊥) → slice_index places step.to ≤ 0 →
     height numbers (step_at steps k).from + (step_at steps k).up ≤ height numbers (step_at steps k).to →
-    IsLeaving arcs steps numbers places k (height numbers step.to - height numbers step.from - step.up)
-leaves_at arcs steps numbers places k step is inside from to met =
+    IsLeaving steps numbers places k (height numbers step.to - height numbers step.from - step.up)
+leaves_at steps numbers places k step is inside along from to met =
     let from' : slice_index places (step_at steps k).from ≡ 0 → ⊥ = subst (λ (s : Step). slice_index places s.from ≡ 0 → ⊥) is from in
     let to' : slice_index places (step_at steps k).to ≤ 0 = subst (λ (s : Step). slice_index places s.to ≤ 0) is to in
-    subst (λ (s : Step). IsLeaving arcs steps numbers places k (height numbers s.to - height numbers s.from - s.up)) (sym is)
-    (record { inside = inside; from = omega (arith, from'); to = omega arith; just = omega (arith, met) })
+    let along' : 0 < (step_at steps k).up = subst (λ (s : Step). 0 < s.up) is along in
+    subst (λ (s : Step). IsLeaving steps numbers places k (height numbers s.to - height numbers s.from - s.up)) (sym is)
+    (record { inside = inside; along = along'; from = omega (arith, from'); to = omega arith; just = omega (arith, met) })
 
 -- a step that does not leave them changes nothing
-pub least_same : (arcs : ℕ) (steps : List Step) (numbers places : List ℕ) (k : ℕ) (seen seen' : ℕ → Type 0) (least : Option Leaving) →
-    ((j : ℕ) → seen' j → seen j ⊎ (j ≡ k)) → ((slack : ℕ) → IsLeaving arcs steps numbers places k slack → ⊥) →
-    IsLeastLeaving seen arcs steps numbers places least → IsLeastLeaving seen' arcs steps numbers places least
-least_same arcs steps numbers places k seen seen' None more stays was = λ j slack inside leaves.
+pub least_same : (steps : List Step) (numbers places : List ℕ) (k : ℕ) (seen seen' : ℕ → Type 0) (least : Option Leaving) →
+    ((j : ℕ) → seen' j → seen j ⊎ (j ≡ k)) → ((slack : ℕ) → IsLeaving steps numbers places k slack → ⊥) →
+    IsLeastLeaving seen steps numbers places least → IsLeastLeaving seen' steps numbers places least
+least_same steps numbers places k seen seen' None more stays was = λ j slack inside leaves.
     elim (more j inside) [
       | inl front ↦ was j slack front leaves
-      | inr here ↦ stays slack (subst (λ i. IsLeaving arcs steps numbers places i slack) here leaves)
+      | inr here ↦ stays slack (subst (λ i. IsLeaving steps numbers places i slack) here leaves)
     ]
-least_same arcs steps numbers places k seen seen' (Some least) more stays was = (
+least_same steps numbers places k seen seen' (Some least) more stays was = (
   was.0,
   λ j slack inside leaves. elim (more j inside) [
     | inl front ↦ was.1 j slack front leaves
-    | inr here ↦ absurd (stays slack (subst (λ i. IsLeaving arcs steps numbers places i slack) here leaves))
+    | inr here ↦ absurd (stays slack (subst (λ i. IsLeaving steps numbers places i slack) here leaves))
   ],
 )
 
 -- a step has one slack
-one_slack : (arcs : ℕ) (steps : List Step) (numbers places : List ℕ) (j k slack other : ℕ) → j ≡ k →
-    IsLeaving arcs steps numbers places k slack → IsLeaving arcs steps numbers places j other → slack ≡ other
-one_slack arcs steps numbers places j k slack other here leaves leaves' =
-    let there = subst (λ i. IsLeaving arcs steps numbers places i other) here leaves' in
+one_slack : (steps : List Step) (numbers places : List ℕ) (j k slack other : ℕ) → j ≡ k →
+    IsLeaving steps numbers places k slack → IsLeaving steps numbers places j other → slack ≡ other
+one_slack steps numbers places j k slack other here leaves leaves' =
+    let there = subst (λ i. IsLeaving steps numbers places i other) here leaves' in
     omega (arith, leaves.just, there.just)
 
 -- the first step that leaves them
-pub least_first : (arcs : ℕ) (steps : List Step) (numbers places : List ℕ) (k slack : ℕ) (seen seen' : ℕ → Type 0) →
+pub least_first : (steps : List Step) (numbers places : List ℕ) (k slack : ℕ) (seen seen' : ℕ → Type 0) →
     ((j : ℕ) → seen' j → seen j ⊎ (j ≡ k)) →
-    IsLeaving arcs steps numbers places k slack → IsLeastLeaving seen arcs steps numbers places None →
-    IsLeastLeaving seen' arcs steps numbers places (Some (record { step = k; slack = slack }))
-least_first arcs steps numbers places k slack seen seen' more leaves none = (
+    IsLeaving steps numbers places k slack → IsLeastLeaving seen steps numbers places None →
+    IsLeastLeaving seen' steps numbers places (Some (record { step = k; slack = slack }))
+least_first steps numbers places k slack seen seen' more leaves none = (
   leaves,
   λ j other inside leaves'. elim (more j inside) [
     | inl front ↦ absurd (none j other front leaves')
-    | inr here ↦ omega (arith, one_slack arcs steps numbers places j k slack other here leaves leaves')
+    | inr here ↦ omega (arith, one_slack steps numbers places j k slack other here leaves leaves')
   ],
 )
 
 -- the lesser of two
-pub least_lesser : (arcs : ℕ) (steps : List Step) (numbers places : List ℕ) (k slack : ℕ) (seen seen' : ℕ → Type 0) (least lesser : Leaving) →
+pub least_lesser : (steps : List Step) (numbers places : List ℕ) (k slack : ℕ) (seen seen' : ℕ → Type 0) (least lesser : Leaving) →
     ((j : ℕ) → seen' j → seen j ⊎ (j ≡ k)) →
-    IsLeaving arcs steps numbers places k slack → IsLesser least k slack lesser → IsLeastLeaving seen arcs steps numbers places (Some least) →
-    IsLeastLeaving seen' arcs steps numbers places (Some lesser)
-least_lesser arcs steps numbers places k slack seen seen' least lesser more leaves is was = (
+    IsLeaving steps numbers places k slack → IsLesser least k slack lesser → IsLeastLeaving seen steps numbers places (Some least) →
+    IsLeastLeaving seen' steps numbers places (Some lesser)
+least_lesser steps numbers places k slack seen seen' least lesser more leaves is was = (
   elim is.one [
-    | inl same ↦ subst (λ (l : Leaving). IsLeaving arcs steps numbers places l.step l.slack) (sym same) was.0
-    | inr here ↦ subst (λ i. IsLeaving arcs steps numbers places i lesser.slack) (sym here.0)
-        (subst (λ x. IsLeaving arcs steps numbers places k x) (sym here.1) leaves)
+    | inl same ↦ subst (λ (l : Leaving). IsLeaving steps numbers places l.step l.slack) (sym same) was.0
+    | inr here ↦ subst (λ i. IsLeaving steps numbers places i lesser.slack) (sym here.0)
+        (subst (λ x. IsLeaving steps numbers places k x) (sym here.1) leaves)
   ],
   λ j other inside leaves'. elim (more j inside) [
     | inl front ↦ omega (arith, was.1 j other front leaves', is.first)
-    | inr here ↦ omega (arith, one_slack arcs steps numbers places j k slack other here leaves leaves', is.second)
+    | inr here ↦ omega (arith, one_slack steps numbers places j k slack other here leaves leaves', is.second)
   ],
 )
 
 -- the least of more steps is the least of those of them that leave
-pub least_within : (arcs : ℕ) (steps : List Step) (numbers places : List ℕ) (seen seen' : ℕ → Type 0) (least : Option Leaving) →
-    ((k slack : ℕ) → IsLeaving arcs steps numbers places k slack → seen' k → seen k) →
-    IsLeastLeaving seen arcs steps numbers places least → IsLeastLeaving seen' arcs steps numbers places least
-least_within arcs steps numbers places seen seen' None more was = λ k slack inside leaves. was k slack (more k slack leaves inside) leaves
-least_within arcs steps numbers places seen seen' (Some least) more was =
+pub least_within : (steps : List Step) (numbers places : List ℕ) (seen seen' : ℕ → Type 0) (least : Option Leaving) →
+    ((k slack : ℕ) → IsLeaving steps numbers places k slack → seen' k → seen k) →
+    IsLeastLeaving seen steps numbers places least → IsLeastLeaving seen' steps numbers places least
+least_within steps numbers places seen seen' None more was = λ k slack inside leaves. was k slack (more k slack leaves inside) leaves
+least_within steps numbers places seen seen' (Some least) more was =
     (was.0, λ k slack inside leaves. was.1 k slack (more k slack leaves inside) leaves)
 
 -- one step more of the node is seen
@@ -388,26 +403,26 @@ seen_next steps places at node k j seen =
     ]
 
 -- no step of the node is seen yet
-pub least_begun : (nodes arcs : ℕ) (steps : List Step) (numbers places last before : List ℕ) (at node : ℕ) (least : Option Leaving) →
-    ArePaired arcs steps → AreRows nodes (length steps) steps last before →
-    IsLeastLeaving (IsSeenBefore steps places at) arcs steps numbers places least →
-    IsLeastLeaving (IsSeen steps places at node (slice_index last node)) arcs steps numbers places least
-least_begun nodes arcs steps numbers places last before at node least paired rows was =
-    least_within arcs steps numbers places (IsSeenBefore steps places at) (IsSeen steps places at node (slice_index last node)) least
+pub least_begun : (nodes : ℕ) (steps : List Step) (numbers places last before : List ℕ) (at node : ℕ) (least : Option Leaving) →
+    AreRows nodes (length steps) steps last before →
+    IsLeastLeaving (IsSeenBefore steps places at) steps numbers places least →
+    IsLeastLeaving (IsSeen steps places at node (slice_index last node)) steps numbers places least
+least_begun nodes steps numbers places last before at node least rows was =
+    least_within steps numbers places (IsSeenBefore steps places at) (IsSeen steps places at node (slice_index last node)) least
     (λ k slack leaves seen. elim seen [
       | inl seen_before ↦ seen_before
       | inr here ↦
-          let all = rows.last_all k (omega (arith, leaves.inside, paired.two_for_each)) in
+          let all = rows.last_all k leaves.inside in
           absurd (omega (arith, here.1, subst (λ v. k < slice_index last v) here.0 all))
     ]) was
 
 -- the steps of the node between two entries of its row are none
-pub least_next : (nodes arcs : ℕ) (steps : List Step) (numbers places last before : List ℕ) (at node k : ℕ) (least : Option Leaving) →
-    ArePaired arcs steps → AreRows nodes (length steps) steps last before → k < length steps → (step_at steps k).from ≡ node →
-    IsLeastLeaving (IsSeen steps places at (step_at steps k).from k) arcs steps numbers places least →
-    IsLeastLeaving (IsSeen steps places at node (slice_index before k)) arcs steps numbers places least
-least_next nodes arcs steps numbers places last before at node k least paired rows inside from was =
-    least_within arcs steps numbers places (IsSeen steps places at (step_at steps k).from k)
+pub least_next : (nodes : ℕ) (steps : List Step) (numbers places last before : List ℕ) (at node k : ℕ) (least : Option Leaving) →
+    AreRows nodes (length steps) steps last before → k < length steps → (step_at steps k).from ≡ node →
+    IsLeastLeaving (IsSeen steps places at (step_at steps k).from k) steps numbers places least →
+    IsLeastLeaving (IsSeen steps places at node (slice_index before k)) steps numbers places least
+least_next nodes steps numbers places last before at node k least rows inside from was =
+    least_within steps numbers places (IsSeen steps places at (step_at steps k).from k)
     (IsSeen steps places at node (slice_index before k)) least
     (λ j slack leaves seen. elim seen [
       | inl seen_before ↦ inl seen_before
@@ -419,14 +434,14 @@ least_next nodes arcs steps numbers places last before at node k least paired ro
 
 -- the steps of one entry more are seen
 pub least_entry : (nodes arcs reach : ℕ) (steps : List Step) (numbers places : List ℕ) (tree : List Reached) (at : ℕ) (least : Option Leaving) →
-    AreStepsWithin nodes arcs reach steps → ArePaired arcs steps → ArePlaced nodes tree places → at < length tree →
-    IsLeastLeaving (IsSeen steps places at (entry_at tree at).node 0) arcs steps numbers places least →
-    IsLeastLeaving (IsSeenBefore steps places (at + 1)) arcs steps numbers places least
-least_entry nodes arcs reach steps numbers places tree at least all paired placed inside was =
-    least_within arcs steps numbers places (IsSeen steps places at (entry_at tree at).node 0) (IsSeenBefore steps places (at + 1)) least
+    AreStepsWithin nodes arcs reach steps → ArePlaced nodes tree places → at < length tree →
+    IsLeastLeaving (IsSeen steps places at (entry_at tree at).node 0) steps numbers places least →
+    IsLeastLeaving (IsSeenBefore steps places (at + 1)) steps numbers places least
+least_entry nodes arcs reach steps numbers places tree at least all placed inside was =
+    least_within steps numbers places (IsSeen steps places at (entry_at tree at).node 0) (IsSeenBefore steps places (at + 1)) least
     (λ k slack leaves seen. elim (cases_lt at (slice_index places (step_at steps k).from)) [
       | inl last ↦
-          let within = all k (omega (arith, leaves.inside, paired.two_for_each)) in
+          let within = all k leaves.inside in
           let is = placed.placed (step_at steps k).from within.from leaves.from in
           let place : slice_index places (step_at steps k).from - 1 ≡ at = omega (arith, last, seen) in
           inr (sym is ∙ ap (λ j. (entry_at tree j).node) place, omega arith)
@@ -435,18 +450,18 @@ least_entry nodes arcs reach steps numbers places tree at least all paired place
 
 -- the steps of all entries are all that leave
 pub least_of_all : (nodes arcs reach : ℕ) (steps : List Step) (numbers places : List ℕ) (tree : List Reached) (count : ℕ) (least : Option Leaving) →
-    AreStepsWithin nodes arcs reach steps → ArePaired arcs steps → ArePlaced nodes tree places → count ≡ length tree →
-    IsLeastLeaving (IsSeenBefore steps places count) arcs steps numbers places least →
-    IsLeastLeaving (λ k. k < arcs) arcs steps numbers places least
-least_of_all nodes arcs reach steps numbers places tree count least all paired placed is was =
-    least_within arcs steps numbers places (IsSeenBefore steps places count) (λ k. k < arcs) least
+    AreStepsWithin nodes arcs reach steps → ArePlaced nodes tree places → count ≡ length tree →
+    IsLeastLeaving (IsSeenBefore steps places count) steps numbers places least →
+    IsLeastLeaving (λ k. k < length steps) steps numbers places least
+least_of_all nodes arcs reach steps numbers places tree count least all placed is was =
+    least_within steps numbers places (IsSeenBefore steps places count) (λ k. k < length steps) least
     (λ k slack leaves inside.
-    let within = all k (omega (arith, inside, paired.two_for_each)) in
+    let within = all k inside in
     omega (arith, is, placed.within (step_at steps k).from within.from)) was
 
 -- no step is seen yet
-pub least_none : (arcs : ℕ) (steps : List Step) (numbers places : List ℕ) → IsLeastLeaving (IsSeenBefore steps places 0) arcs steps numbers places None
-least_none arcs steps numbers places k slack seen leaves = omega (arith, seen, leaves.from)
+pub least_none : (steps : List Step) (numbers places : List ℕ) → IsLeastLeaving (IsSeenBefore steps places 0) steps numbers places None
+least_none steps numbers places k slack seen leaves = omega (arith, seen, leaves.from)
 
 by_test : (b : Bool) (P Q : Type 0) → (b ≡ true → P) → (b ≡ false → Q) → MatchBool b P Q
 by_test true P Q this that = this refl
@@ -455,7 +470,7 @@ by_test false P Q this that = that refl
 -- slacks are low
 pub slack_low : (nodes arcs reach : ℕ) (steps : List Step) (amounts numbers want places : List ℕ) (k slack : ℕ) → (nodes - 1) * reach ≤ 2 ^ 42 →
     AreStepsWithin nodes arcs reach steps → k < length steps → AreFit nodes ((nodes - 1) * reach) steps amounts numbers want →
-    IsLeaving arcs steps numbers places k slack → slack ≤ 2 ^ 60
+    IsLeaving steps numbers places k slack → slack ≤ 2 ^ 60
 slack_low nodes arcs reach steps amounts numbers want places k slack short all inside fit leaves =
     let end = fit.low (step_at steps k).to (all k inside).to in
     omega (arith, short, end, leaves.just)

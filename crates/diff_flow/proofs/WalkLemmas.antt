@@ -1,5 +1,5 @@
 -- The longest walks: the steps in topological order, each met once and for all.
-use Rattle.std.proofs.Common.{◌≡◌, ℕ, ◌+◌, ◌<◌, ◌≤◌, inl, inr, List, [], length, replicate, refl, sym, ap, subst, ◌∙◌, arith}
+use Rattle.std.proofs.Common.{◌≡◌, ℕ, ◌+◌, ◌*◌, ◌<◌, ◌≤◌, inl, inr, List, [], length, replicate, refl, sym, ap, subst, ◌∙◌, arith}
 use Rattle.std.specs.Prelude.{pos, ℤ, ◌≤ℤ◌, slice_index}
 use Rattle.std.proofs.lemmas.Bool.{cases_lt}
 use Rattle.shape_graphs.specs.declared.graph.Arc.{Arc}
@@ -8,8 +8,8 @@ use Rattle.shape_graphs.specs.Flows.{amount_at, IsSolution}
 use Rattle.shape_graphs.specs.Orders.{IsArcOrder}
 use Rattle.diff_flow.specs.declared.steps.Step.{Step}
 use Rattle.diff_flow.specs.Tight.{AreLeastTight}
-use Rattle.diff_flow.specs.inner.Networks.{AreLongestWalks}
-use Rattle.diff_flow.specs.inner.Steps.{step_at, AreStepsWithin, ArePaired, AreStepsOf, AreInOrder, IsOpen, Meets}
+use Rattle.diff_flow.specs.Walks.{AreLongestWalks}
+use Rattle.diff_flow.specs.inner.Steps.{step_at, along_at, AreStepsWithin, ArePaired, AreStepsOf, AreInOrder, IsOpen, Meets}
 use Rattle.diff_flow.specs.inner.Numbers.{height, NoneMeet, IsLift, AreLeastMet, AreWalked}
 use Rattle.diff_flow.proofs.SetLemmas.{by_write}
 use Rattle.diff_flow.proofs.LabelLemmas.{zeros_low, raised_low_at}
@@ -37,14 +37,14 @@ walked_first nodes limit steps order = record {
 module _ (nodes arcs reach limit : ℕ) (steps : List Step) (order : List ℕ) (at : ℕ) (old : List ℕ) (all : AreStepsWithin nodes arcs reach steps)
     (paired : ArePaired arcs steps) (ordered : AreInOrder arcs steps order) (inside : at < length order)
     (walked : AreWalked nodes steps limit order at old) where
-  number_in : slice_index order at < length steps
+  number_in : 2 * slice_index order at < length steps
   number_in = omega (arith, ordered.inside at inside, paired.two_for_each)
 
-  pub walk_open : IsOpen [] (step_at steps (slice_index order at))
+  pub walk_open : IsOpen [] (along_at steps (slice_index order at))
   walk_open = omega (arith, paired.up (slice_index order at) (ordered.inside at inside))
 
   -- the step is met already
-  pub walked_kept : (new : List ℕ) → new ≡ old → Meets (height old) (step_at steps (slice_index order at)) →
+  pub walked_kept : (new : List ℕ) → new ≡ old → Meets (height old) (along_at steps (slice_index order at)) →
       AreWalked nodes steps limit order (at + 1) new
   walked_kept new same meets =
       subst (AreWalked nodes steps limit order (at + 1)) (sym same)
@@ -54,32 +54,32 @@ module _ (nodes arcs reach limit : ℕ) (steps : List Step) (order : List ℕ) (
           | inl front ↦ walked.met j front
           | inr back ↦
               let here : at ≡ j = omega arith in
-              subst (λ i. Meets (height old) (step_at steps (slice_index order i))) here meets
+              subst (λ i. Meets (height old) (along_at steps (slice_index order i))) here meets
         ];
       })
 
   -- the number at its end is raised: the steps that were met begin elsewhere
-  pub walked_raised : (step : Step) (new : List ℕ) (up : ℕ) → step ≡ step_at steps (slice_index order at) → IsLift step old new up → up ≤ limit →
+  pub walked_raised : (step : Step) (new : List ℕ) (up : ℕ) → step ≡ along_at steps (slice_index order at) → IsLift step old new up → up ≤ limit →
       AreWalked nodes steps limit order (at + 1) new
   walked_raised step new up is lifted within = record {
-    low = raised_low_at nodes arcs reach steps [] limit old all walked.low (slice_index order at) step number_in is
+    low = raised_low_at nodes arcs reach steps [] limit old all walked.low (2 * slice_index order at) step number_in is
         (subst (IsOpen []) (sym is) walk_open) new up lifted within;
     met = λ j before. elim (cases_lt j at) [
       | inl front ↦
           let meets = walked.met j front in
-          let from = kept (step_at steps (slice_index order j)).from
+          let from = kept (along_at steps (slice_index order j)).from
           (λ same. let less = ordered.ends_before j at (omega (arith, front, inside)) inside (sym (same ∙ ap (λ (s : Step). s.to) is)) in omega (arith, less, front)) in
-          let to = risen (step_at steps (slice_index order j)).to in
+          let to = risen (along_at steps (slice_index order j)).to in
           omega (arith, meets, from, to)
       | inr back ↦
           let here : at ≡ j = omega arith in
-          subst (λ i. Meets (height new) (step_at steps (slice_index order i))) here
+          subst (λ i. Meets (height new) (along_at steps (slice_index order i))) here
           (subst (Meets (height new)) is just)
     ];
   }
     where
       to_in : step.to < length old
-      to_in = omega (arith, ap (λ (s : Step). s.to) is, (all (slice_index order at) number_in).to, walked.low.one_for_each)
+      to_in = omega (arith, ap (λ (s : Step). s.to) is, (all (2 * slice_index order at) number_in).to, walked.low.one_for_each)
 
       kept : (v : ℕ) → (v ≡ step.to → ⊥) → height new v ≡ height old v
       kept v apart = rw lifted.written (by_write (λ x. x ≡ height old v) old step.to v up to_in (λ same. absurd (apart same)) (λ _. refl))
@@ -106,8 +106,9 @@ walked_all nodes arcs limit steps order numbers count paired ordered all walked 
   met = λ k inside opens.
       let none : amount_at [] (step_at steps k).arc ≡ 0 = refl in
       let number = along_number arcs steps paired k inside (omega (arith, opens, none)) in
-      let found = ordered.has_each k number.0 in
-      subst (λ i. Meets (height numbers) (step_at steps i)) found.2 (walked.met found.0 (omega (arith, all, found.1)));
+      let found = ordered.has_each number.0 number.1 in
+      subst (λ j. Meets (height numbers) (step_at steps j)) (sym number.2)
+      (subst (λ i. Meets (height numbers) (along_at steps i)) found.2 (walked.met found.0 (omega (arith, all, found.1))));
 }
 
 -- where the graph has a solution, numbers meet the steps along its arcs

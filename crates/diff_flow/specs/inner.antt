@@ -5,3 +5,5 @@ pub mod Networks
 pub mod Search
 pub mod Routing
 pub mod Bettering
+pub mod Lengthening
+pub mod Growing

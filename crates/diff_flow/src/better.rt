@@ -1,11 +1,12 @@
 //! A best flow, found from one that is not best.
 
-ghost use Rattle.std.specs.Prelude.{IfOk, MatchOption};
+ghost use Rattle.std.specs.Prelude.{◌≡◌, ◌-◌, ◌*◌, length, IfOk, MatchOption};
 ghost use Rattle.shape_graphs.specs.Flows.{Balances};
 ghost use Rattle.diff_flow.specs.Amounts.{IsFlowOn};
 ghost use Rattle.diff_flow.specs.Improving.{IsBestByNumbers};
 ghost use Rattle.diff_flow.specs.inner.Bettering.{IsBetter};
-ghost use Rattle.diff_flow.specs.inner.Networks.{AreMadeFor};
+ghost use Rattle.diff_flow.specs.inner.Routing.{AreFirst};
+ghost use Rattle.diff_flow.specs.inner.Steps.{AreStepsOf};
 
 use crate::route::{narrowed, route};
 use crate::slack::slack_arc;
@@ -25,16 +26,20 @@ pub(crate) struct Better {
     pub(crate) slack: usize,
 }
 
-/// A best flow of the graph with these steps and longest walks, found from the one given; `None`
-/// exactly if that is best.
+/// A best flow of the graph with these steps, found from the one given, which the numbers of
+/// `first` leave slack nearly nowhere; `None` exactly if that is best.
 pub(crate) fn find_better(
     alloc: Global,
     graph: &Snapshot<DiffGraph>,
     steps: &Steps,
-    walks: &[u64],
+    first: &[u64],
     flow: &Flow,
 ) -> Result<Option<Better>, NoMemory>
-    requires made { AreMadeFor graph.now.value steps.now walks.now }
+    requires nodes { steps.now.nodes ≡ graph.now.value.nodes }
+    requires arcs { steps.now.arcs ≡ length graph.now.value.arcs }
+    requires steps { AreStepsOf graph.now.value.arcs steps.now.list.items }
+    requires first { AreFirst steps.now.nodes steps.now.arcs
+        ((steps.now.nodes - 1) * steps.now.reach) steps.now.list.items first.now }
     requires flow { IsFlowOn graph.now.value.arcs flow.now.amounts }
     requires balances { Balances graph.now.value.nodes graph.now.value.arcs flow.now.amounts }
     ensures { IfOk result (λ found. MatchOption found
@@ -43,10 +48,10 @@ pub(crate) fn find_better(
 {
     let _of_the_clauses = graph;
     let amounts = flow.amounts.as_slice();
-    let Some(_) = slack_arc(steps, amounts, walks) else {
+    let Some(_) = slack_arc(steps, amounts, first) else {
         return Ok(None);
     };
-    let mut numbers = Vec::from_slice(alloc, walks)?;
+    let mut numbers = Vec::from_slice(alloc, first)?;
     let routed = route(alloc, steps, amounts, numbers.as_mut_slice())?;
     let Some(slack) = slack_arc(steps, amounts, numbers.as_slice()) else {
         return Ok(None);

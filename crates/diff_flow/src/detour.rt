@@ -8,9 +8,10 @@ ghost use Rattle.diff_flow.specs.inner.Steps.{AreMet};
 ghost use Rattle.diff_flow.specs.inner.Numbers.{height};
 ghost use Rattle.diff_flow.specs.inner.Routing.{IsDetour, IsSlack, net_by};
 
-use crate::route::send;
-use crate::search::{Tree, plant, spread};
+use crate::search::spread;
+use crate::sending::send;
 use crate::steps::{Step, Steps};
+use crate::tree::{Tree, plant};
 use compact_types::NoMemory;
 use std::alloc::Global;
 
@@ -35,7 +36,7 @@ pub(crate) fn detour(
         numbers.now amounts.old amounts.new i) }
 {
     amounts[i] -= 1;
-    let step = steps.at(i);
+    let step = steps.along(i);
     let mut want = vec![in alloc; 0u128; steps.nodes as usize]?;
     want[step.to as usize] = 1;
     let mut tree = Tree::blank(alloc, steps.nodes)?;

@@ -4,7 +4,7 @@
 //! are then raised from a queue of the nodes whose steps may fail. A number above the limit shows
 //! that no numbers meet the steps.
 
-ghost use Rattle.std.specs.Prelude.{◌≡◌, ◌≤◌, ◌<◌, ◌+◌, ◌-◌, ◌*◌, ◌^◌};
+ghost use Rattle.std.specs.Prelude.{◌≡◌, ℕ, ◌≤◌, ◌<◌, ◌+◌, ◌-◌, ◌*◌, ◌^◌, ◌⊎◌};
 ghost use Rattle.std.specs.Prelude.{[], length, replicate, slice_index, IfOk};
 ghost use Rattle.std.specs.Prelude.{sum, MatchBool, MatchOption};
 ghost use Rattle.diff_flow.specs.inner.Steps.{step_at};
@@ -13,6 +13,7 @@ ghost use Rattle.diff_flow.specs.inner.Numbers.{
   AreLate,
   AreLeastMet,
   AreListed,
+  IsIn,
   Lifts,
   NoneLate,
   NoneMeet,
@@ -95,12 +96,12 @@ fn wait_where_slack(
     requires amounts { length amounts.now ≡ steps.now.arcs }
     requires rises { Rises steps.now.nodes steps.now.list.items amounts.now
         ((steps.now.nodes - 1) * steps.now.reach) walks.now waits.old queue.old.items
-        (AreFrom (steps.now.arcs + i)) }
+        (AreFrom i) }
     ensures rises { IfOk result (λ _. Rises steps.now.nodes steps.now.list.items amounts.now
         ((steps.now.nodes - 1) * steps.now.reach) walks.now waits.new queue.new.items
-        (AreFrom (steps.now.arcs + (i + 1)))) }
+        (AreFrom (i + 1))) }
 {
-    let step = steps.at(i);
+    let step = steps.along(i);
     if is_slack(step, amounts[i], walks) {
         wait(step.to, waits, queue)?;
     }
@@ -247,11 +248,13 @@ pub(crate) fn lift(step: Step, amount: u64, limit: u64, numbers: &mut [u64]) -> 
 }
 
 /// Puts the node into the queue, where it does not wait already.
-fn wait(node: u32, waits: &mut [u8], queue: &mut VecDeque<u32>) -> Result<(), NoMemory>
+pub(crate) fn wait(node: u32, waits: &mut [u8], queue: &mut VecDeque<u32>) -> Result<(), NoMemory>
     requires node { node < length waits.old }
     requires lists { AreListed (length waits.old) waits.old queue.old.items }
-    ensures { IfOk result (λ _.
+    ensures waits { IfOk result (λ _.
         Waits (length waits.old) node waits.old queue.old.items waits.new queue.new.items) }
+    ensures only { IfOk result (λ _. (v : ℕ) → IsIn queue.new.items v →
+        (v ≡ node) ⊎ IsIn queue.old.items v) }
 {
     if waits[node as usize] == 0 {
         queue.push_back(node)?;

@@ -9,7 +9,11 @@ ghost use Rattle.std.specs.Prelude.{
   ◌<◌,
   ℤ,
   pos,
+  ◌+ℤ◌,
   ◌≤ℤ◌,
+  [],
+  ◌∷◌,
+  ◌++◌,
   List,
   length,
 };
@@ -69,6 +73,15 @@ pub fn least_numbers_have_no_gaps()
         AreLeastTight nodes arcs amounts numbers →
         (height node : ℕ) → node < nodes → pos height ≤ℤ numbers node →
         (at : ℕ) × (at < nodes) × (numbers at ≡ pos height) }
+{}
+
+/// Where the least tight numbers of a flow meet one arc more, they are the least tight numbers of
+/// the flow that carries nothing on it.
+pub fn least_numbers_that_meet_an_arc()
+    ensures { (nodes : ℕ) (arcs : List Arc) (arc : Arc) (amounts : List ℕ) (numbers : ℕ → ℤ) →
+        length amounts ≡ length arcs → AreLeastTight nodes arcs amounts numbers →
+        (numbers arc.from +ℤ arc.least) ≤ℤ numbers arc.to →
+        AreLeastTight nodes (arcs ++ arc ∷ []) (amounts ++ 0 ∷ []) numbers }
 {}
 
 /// Where a graph has a solution no amount of a balanced flow is above the sum of the pulls.

@@ -7,29 +7,35 @@
 //!
 //! A better flow is found from the longest walks: what a flow has on arcs that these leave slack is
 //! dropped, and what is then in excess at some nodes is sent along tight arcs to the nodes that
-//! lack, while the numbers rise (`route`, `search`).
+//! lack, while the numbers rise (`route`, `sending`, `search`).
 #![tactic(auto)]
 
 mod better;
 mod detour;
 mod flow;
+mod growing;
 mod improving;
 mod labels;
 mod law;
+mod leaving;
+mod lengthen;
 mod network;
 mod route;
 mod search;
+mod sending;
 mod slack;
 mod steps;
 #[cfg(test)]
 mod tests;
 mod tight;
+mod tree;
 mod walks;
 
 pub use flow::{balanced, bound, first_flow};
 pub use improving::{Improved, improve};
 pub use law::{
-    amounts_are_low, flows_bound_lengths, least_numbers_have_no_gaps, least_solutions_meet,
+    amounts_are_low, flows_bound_lengths, least_numbers_have_no_gaps,
+    least_numbers_that_meet_an_arc, least_solutions_meet,
 };
 pub use network::Network;
 pub use shape_graphs::MOST_AMOUNT;

@@ -2,25 +2,17 @@
 //! some nodes is sent along tight steps to the nodes that lack.
 
 ghost use Rattle.std.specs.Prelude.{◌≡◌, ◌≤◌, ◌<◌, ◌+◌, ◌-◌, ◌*◌, ◌^◌, ℕ};
-ghost use Rattle.std.specs.Prelude.{length, slice_index, IfOk, List};
+ghost use Rattle.std.specs.Prelude.{length, IfOk, List};
 ghost use Rattle.shape_graphs.specs.Flows.{amount_at};
 ghost use Rattle.shape_graphs.specs.declared.graph.TheConstants.{MOST_AMOUNT};
-ghost use Rattle.diff_flow.specs.inner.Steps.{AreMet, step_at};
+ghost use Rattle.diff_flow.specs.inner.Steps.{AreMet, along_at};
 ghost use Rattle.diff_flow.specs.inner.Numbers.{height};
-ghost use Rattle.diff_flow.specs.inner.Search.{entry_at, IsBlank, IsTree};
-ghost use Rattle.diff_flow.specs.inner.Routing.{
-  AreDropped,
-  AreGiven,
-  IsKept,
-  IsMoved,
-  IsRouting,
-  IsSent,
-  IsSpread,
-  net_by,
-};
+ghost use Rattle.diff_flow.specs.inner.Search.{IsBlank};
+ghost use Rattle.diff_flow.specs.inner.Routing.{AreDropped, AreGiven, IsKept, IsSpread, net_by};
 
-use crate::search::{Tree, clear, find};
-use crate::steps::{Step, Steps};
+use crate::sending::send_all;
+use crate::steps::Steps;
+use crate::tree::Tree;
 use compact_types::{Items, NoMemory};
 use std::alloc::Global;
 
@@ -38,9 +30,9 @@ pub(crate) fn route(
     requires limit { (v : ℕ) → v < steps.now.nodes →
         height numbers.old v ≤ (steps.now.nodes - 1) * steps.now.reach }
     requires met { (k : ℕ) → k < steps.now.arcs →
-        height numbers.old (step_at steps.now.list.items k).from
-        + (step_at steps.now.list.items k).up
-        ≤ height numbers.old (step_at steps.now.list.items k).to }
+        height numbers.old (along_at steps.now.list.items k).from
+        + (along_at steps.now.list.items k).up
+        ≤ height numbers.old (along_at steps.now.list.items k).to }
     ensures len { IfOk result (λ amounts. length amounts.items ≡ steps.now.arcs) }
     ensures net { IfOk result (λ amounts. (v : ℕ) → v < steps.now.nodes →
         net_by steps.now.list.items steps.now.arcs amounts.items v
@@ -81,9 +73,9 @@ fn reroute(
     requires limit { (v : ℕ) → v < steps.now.nodes →
         height numbers.old v ≤ (steps.now.nodes - 1) * steps.now.reach }
     requires met { (k : ℕ) → k < steps.now.arcs →
-        height numbers.old (step_at steps.now.list.items k).from
-        + (step_at steps.now.list.items k).up
-        ≤ height numbers.old (step_at steps.now.list.items k).to }
+        height numbers.old (along_at steps.now.list.items k).from
+        + (along_at steps.now.list.items k).up
+        ≤ height numbers.old (along_at steps.now.list.items k).to }
     requires dropped { AreDropped steps.now.nodes steps.now.arcs 0 steps.now.list.items numbers.old
         amounts.old over.old want.old }
     requires given { (given : List ℕ) × AreGiven steps.now.arcs given
@@ -170,153 +162,15 @@ fn drop_slack(
         numbers.now amounts.new over.new want.new }
     ensures kept { IsKept steps.now.nodes steps.now.arcs steps.now.list.items
         amounts.old over.old want.old amounts.new over.new want.new }
-    ensures tight { height numbers.now (step_at steps.now.list.items i).to
-        ≡ height numbers.now (step_at steps.now.list.items i).from
-        + (step_at steps.now.list.items i).up → amounts.new ≡ amounts.old }
+    ensures tight { height numbers.now (along_at steps.now.list.items i).to
+        ≡ height numbers.now (along_at steps.now.list.items i).from
+        + (along_at steps.now.list.items i).up → amounts.new ≡ amounts.old }
 {
-    let step = steps.at(i);
+    let step = steps.along(i);
     if numbers[step.to as usize] != numbers[step.from as usize] + step.up as u64 {
         let amount = amounts[i];
         amounts[i] = 0;
         over[step.from as usize] += amount;
         want[step.to as usize] += amount;
-    }
-}
-
-/// Sends the excess of all nodes to where they lack.
-fn send_all(
-    steps: &Steps,
-    amounts: &mut [u128],
-    numbers: &mut [u64],
-    over: &mut [u128],
-    want: &mut [u128],
-    tree: &mut Tree,
-) -> Result<(), NoMemory>
-    requires blank { IsBlank steps.now.nodes tree.old.entries.items tree.old.places.items }
-    requires routing { IsRouting steps.now.nodes steps.now.arcs
-        ((steps.now.nodes - 1) * steps.now.reach) steps.now.list.items
-        amounts.old numbers.old over.old want.old }
-    ensures routing { IfOk result (λ _. IsRouting steps.now.nodes steps.now.arcs
-        ((steps.now.nodes - 1) * steps.now.reach) steps.now.list.items
-        amounts.new numbers.new over.new want.new) }
-    ensures kept { IfOk result (λ _. IsKept steps.now.nodes steps.now.arcs steps.now.list.items
-        amounts.old over.old want.old amounts.new over.new want.new) }
-    ensures blank { IfOk result (λ _.
-        IsBlank steps.now.nodes tree.new.entries.items tree.new.places.items) }
-    ensures none { IfOk result (λ _. (v : ℕ) → v < steps.now.nodes → slice_index over.new v ≡ 0) }
-{
-    for node in 0..steps.nodes {
-        send_from(node, steps, amounts, numbers, over, want, tree)?;
-    }
-    Ok(())
-}
-
-/// Sends the excess of the node to where they lack.
-fn send_from(
-    node: u32,
-    steps: &Steps,
-    amounts: &mut [u128],
-    numbers: &mut [u64],
-    over: &mut [u128],
-    want: &mut [u128],
-    tree: &mut Tree,
-) -> Result<(), NoMemory>
-    requires blank { IsBlank steps.now.nodes tree.old.entries.items tree.old.places.items }
-    requires node { node < steps.now.nodes }
-    requires routing { IsRouting steps.now.nodes steps.now.arcs
-        ((steps.now.nodes - 1) * steps.now.reach) steps.now.list.items
-        amounts.old numbers.old over.old want.old }
-    ensures routing { IfOk result (λ _. IsRouting steps.now.nodes steps.now.arcs
-        ((steps.now.nodes - 1) * steps.now.reach) steps.now.list.items
-        amounts.new numbers.new over.new want.new) }
-    ensures kept { IfOk result (λ _. IsKept steps.now.nodes steps.now.arcs steps.now.list.items
-        amounts.old over.old want.old amounts.new over.new want.new) }
-    ensures blank { IfOk result (λ _.
-        IsBlank steps.now.nodes tree.new.entries.items tree.new.places.items) }
-    ensures none { IfOk result (λ _. slice_index over.new node ≡ 0) }
-    ensures less { IfOk result (λ _. (v : ℕ) → slice_index over.new v ≤ slice_index over.old v) }
-{
-    while over[node as usize] > 0 {
-        send_once(node, steps, amounts, numbers, over, want, tree)?;
-    }
-    Ok(())
-}
-
-/// Sends some of the excess of the node along one way.
-fn send_once(
-    node: u32,
-    steps: &Steps,
-    amounts: &mut [u128],
-    numbers: &mut [u64],
-    over: &mut [u128],
-    want: &mut [u128],
-    tree: &mut Tree,
-) -> Result<(), NoMemory>
-    requires blank { IsBlank steps.now.nodes tree.old.entries.items tree.old.places.items }
-    requires node { node < steps.now.nodes }
-    requires some { 0 < slice_index over.old node }
-    requires routing { IsRouting steps.now.nodes steps.now.arcs
-        ((steps.now.nodes - 1) * steps.now.reach) steps.now.list.items
-        amounts.old numbers.old over.old want.old }
-    ensures routing { IfOk result (λ _. IsRouting steps.now.nodes steps.now.arcs
-        ((steps.now.nodes - 1) * steps.now.reach) steps.now.list.items
-        amounts.new numbers.new over.new want.new) }
-    ensures kept { IfOk result (λ _. IsKept steps.now.nodes steps.now.arcs steps.now.list.items
-        amounts.old over.old want.old amounts.new over.new want.new) }
-    ensures blank { IfOk result (λ _.
-        IsBlank steps.now.nodes tree.new.entries.items tree.new.places.items) }
-    ensures fewer { IfOk result (λ _. slice_index over.new node < slice_index over.old node) }
-    ensures less { IfOk result (λ _. (v : ℕ) → slice_index over.new v ≤ slice_index over.old v) }
-{
-    find(
-        node,
-        over[node as usize],
-        steps,
-        amounts,
-        numbers,
-        want,
-        tree,
-    )?;
-    let last = tree.entries[tree.entries.len() - 1];
-    let amount = last.room.min(want[last.node as usize]);
-    send(steps, numbers, tree, amount, amounts);
-    clear(steps.nodes, tree);
-    over[node as usize] -= amount;
-    want[last.node as usize] -= amount;
-    Ok(())
-}
-
-/// Sends the amount along the way to the last entry of the tree.
-pub(crate) fn send(steps: &Steps, numbers: &[u64], tree: &Tree, amount: u128, amounts: &mut [u128])
-    requires amounts { length amounts.old ≡ steps.now.arcs }
-    requires low { (i : ℕ) → i < steps.now.arcs → amount_at amounts.old i + amount < 2 ^ 128 }
-    requires tree { IsTree steps.now.nodes steps.now.list.items amounts.old numbers.now
-        tree.now.entries.items tree.now.places.items }
-    requires room { amount ≤ (entry_at tree.now.entries.items
-        (length tree.now.entries.items - 1)).room }
-    ensures { IsMoved steps.now.nodes steps.now.arcs steps.now.list.items amount
-        (entry_at tree.now.entries.items 0).node
-        (entry_at tree.now.entries.items (length tree.now.entries.items - 1)).node
-        numbers.now amounts.old amounts.new }
-{
-    let mut at = tree.entries.len() - 1;
-    while at > 0 {
-        let entry = tree.entries[at];
-        pass(steps.at(entry.step as usize), amount, amounts);
-        at = entry.parent as usize;
-    }
-}
-
-/// Sends the amount over the step.
-fn pass(step: Step, amount: u128, amounts: &mut [u128])
-    requires arc { step.arc < length amounts.old }
-    requires along { 0 < step.up → amount_at amounts.old step.arc + amount < 2 ^ 128 }
-    requires against { step.up ≡ 0 → amount ≤ amount_at amounts.old step.arc }
-    ensures { IsSent step amount amounts.old amounts.new }
-{
-    if step.up > 0 {
-        amounts[step.arc as usize] += amount;
-    } else {
-        amounts[step.arc as usize] -= amount;
     }
 }

@@ -4,8 +4,7 @@
 //! reached nodes are raised until one more step is tight.
 
 ghost use Rattle.std.specs.Prelude.{◌≡◌, ◌↔◌, ◌≤◌, ◌<◌, ◌+◌, ◌-◌, ◌*◌, ◌^◌, ℕ};
-ghost use Rattle.std.specs.Prelude.{length, slice_index, IfOk, IsTrue, List, MatchBool};
-ghost use Rattle.diff_flow.specs.declared.search.Reached.{Reached};
+ghost use Rattle.std.specs.Prelude.{length, slice_index, IfOk, IsTrue, MatchBool};
 ghost use Rattle.diff_flow.specs.declared.steps.Step.{Step};
 ghost use Rattle.diff_flow.specs.inner.Steps.{step_at};
 ghost use Rattle.diff_flow.specs.inner.Numbers.{height};
@@ -17,14 +16,8 @@ ghost use Rattle.diff_flow.specs.inner.Search.{
   entry_at,
   Grows,
   IsBlank,
-  IsEntered,
-  IsLeastLeaving,
-  IsLesser,
   IsPassable,
   IsPassed,
-  IsRoom,
-  IsSeen,
-  IsSeenBefore,
   IsTrap,
   IsTree,
   NoneLacks,
@@ -32,39 +25,10 @@ ghost use Rattle.diff_flow.specs.inner.Search.{
   Searches,
 };
 
+use crate::leaving::least_leaving;
 use crate::steps::{Step, Steps};
+use crate::tree::{Tree, enter, plant};
 use compact_types::NoMemory;
-use std::alloc::Global;
-
-/// A node that was reached: over which step, from the node of which entry, and how much can be
-/// sent to it.
-#[derive(Clone, Copy)]
-pub(crate) struct Reached {
-    pub(crate) node: u32,
-    pub(crate) parent: u32,
-    pub(crate) step: u32,
-    pub(crate) room: u128,
-}
-
-/// The reached nodes in the order in which they were reached; and for each node the number of its
-/// entry and one more, 0 where it was not reached.
-#[derive(Drop)]
-pub(crate) struct Tree {
-    pub(crate) entries: Vec<Reached>,
-    pub(crate) places: Vec<u32>,
-}
-
-impl Tree {
-    /// A tree without nodes, which has room for all.
-    pub(crate) fn blank(alloc: Global, nodes: u32) -> Result<Tree, NoMemory>
-        ensures blank { IfOk result (λ tree. IsBlank nodes tree.entries.items tree.places.items) }
-    {
-        Ok(Tree {
-            entries: Vec::with_capacity(alloc, nodes as usize)?,
-            places: vec![in alloc; 0u32; nodes as usize]?,
-        })
-    }
-}
 
 /// Finds a way from `start` to a node that lacks, along which up to `most` can be sent; raises
 /// numbers where no way is tight. The last entry is the node that lacks.
@@ -103,41 +67,6 @@ pub(crate) fn find(
         found = grow(steps, amounts, numbers, want, tree)?;
     }
     Ok(())
-}
-
-/// Makes a tree without nodes one of one node.
-pub(crate) fn plant(start: u32, most: u128, nodes: u32, tree: &mut Tree) -> Result<(), NoMemory>
-    requires start { start < nodes }
-    requires some { 0 < most }
-    requires blank { IsBlank nodes tree.old.entries.items tree.old.places.items }
-    ensures one { IfOk result (λ _. length tree.new.entries.items ≡ 1) }
-    ensures start { IfOk result (λ _. (entry_at tree.new.entries.items 0).node ≡ start) }
-    ensures most { IfOk result (λ _. (entry_at tree.new.entries.items 0).room ≡ most) }
-    ensures tree { (steps : List Step) (amounts numbers : List ℕ) → IfOk result (λ _.
-        IsTree nodes steps amounts numbers tree.new.entries.items tree.new.places.items) }
-    ensures places { IfOk result (λ _.
-        (v : ℕ) → 0 < slice_index tree.new.places.items v → v ≡ start) }
-{
-    tree.entries.push(Reached {
-        node: start,
-        parent: 0,
-        step: 0,
-        room: most,
-    })?;
-    tree.places[start as usize] = 1;
-    Ok(())
-}
-
-/// Takes all nodes out of the tree.
-pub(crate) fn clear(nodes: u32, tree: &mut Tree)
-    requires { ArePlaced nodes tree.old.entries.items tree.old.places.items }
-    ensures { IsBlank nodes tree.new.entries.items tree.new.places.items }
-{
-    for at in 0..tree.entries.len() {
-        let node = tree.entries[at].node;
-        tree.places[node as usize] = 0;
-    }
-    tree.entries.clear();
 }
 
 /// Reaches more nodes over tight steps, and raises numbers where no node that lacks is among them;
@@ -305,44 +234,6 @@ fn is_passable(step: Step, amounts: &[u128], numbers: &[u64]) -> bool
     }
 }
 
-/// Adds the end of step `k`, whose beginning was reached, to the reached nodes.
-fn enter(k: usize, steps: &Steps, amounts: &[u128], tree: &mut Tree) -> Result<(), NoMemory>
-    requires inside { k < length steps.now.list.items }
-    requires amounts { length amounts.now ≡ steps.now.arcs }
-    requires places { length tree.old.places.items ≡ steps.now.nodes }
-    requires few { length tree.old.entries.items < steps.now.nodes }
-    requires from { 0 < slice_index tree.old.places.items (step_at steps.now.list.items k).from }
-    requires entry { slice_index tree.old.places.items (step_at steps.now.list.items k).from
-        ≤ length tree.old.entries.items }
-    ensures { IfOk result (λ _. (entry : Reached) × IsEntered steps.now.list.items amounts.now k
-        tree.old.entries.items tree.old.places.items
-        tree.new.entries.items tree.new.places.items entry) }
-{
-    let step = steps.at(k);
-    let parent = tree.places[step.from as usize] - 1;
-    let above = tree.entries[parent as usize].room;
-    let room = room_over(step, amounts[step.arc as usize], above);
-    tree.entries.push(Reached {
-        node: step.to,
-        parent,
-        step: k as u32,
-        room,
-    })?;
-    tree.places[step.to as usize] = tree.entries.len() as u32;
-    Ok(())
-}
-
-/// How much can be sent over the step, where its arc has this amount and so much reaches it.
-fn room_over(step: Step, amount: u128, above: u128) -> u128
-    ensures { IsRoom step amount above result }
-{
-    if step.up > 0 {
-        above
-    } else {
-        above.min(amount)
-    }
-}
-
 /// Raises the numbers of the reached nodes until a step from them to another node is tight, and
 /// reaches that node; whether it lacks.
 fn turn(
@@ -383,117 +274,6 @@ fn turn(
     let k = leaving.step as usize;
     enter(k, steps, amounts, tree)?;
     Ok(want[steps.at(k).to as usize] > 0)
-}
-
-/// A step that leads along an arc from a reached node to one that is not, and by how much the
-/// numbers more than meet it.
-#[derive(Clone, Copy)]
-struct Leaving {
-    step: u32,
-    slack: u64,
-}
-
-/// Of the steps along arcs from a reached node to one that is not the one with the least slack;
-/// `None` exactly where there is none. Only the steps of reached nodes are looked at.
-fn least_leaving(steps: &Steps, numbers: &[u64], tree: &Tree) -> Option<Leaving>
-    requires numbers { length numbers.now ≡ steps.now.nodes }
-    requires placed { ArePlaced steps.now.nodes tree.now.entries.items tree.now.places.items }
-    requires low { (v : ℕ) → v < steps.now.nodes → height numbers.now v ≤ 2 ^ 60 }
-    requires met { (k : ℕ) → k < steps.now.arcs →
-        height numbers.now (step_at steps.now.list.items k).from
-        + (step_at steps.now.list.items k).up
-        ≤ height numbers.now (step_at steps.now.list.items k).to }
-    ensures { IsLeastLeaving (λ k. k < steps.now.arcs) steps.now.arcs steps.now.list.items
-        numbers.now tree.now.places.items result }
-{
-    let mut least = None;
-    for at in 0..tree.entries.len() {
-        let node = tree.entries[at].node;
-        least = lesser_from(node, steps, numbers, tree.places.as_slice(), least);
-    }
-    least
-}
-
-/// The lesser of the step given and the steps of the node that leave the reached nodes.
-fn lesser_from(
-    node: u32,
-    steps: &Steps,
-    numbers: &[u64],
-    places: &[u32],
-    least: Option<Leaving>,
-) -> Option<Leaving>
-    requires node { node < steps.now.nodes }
-    requires numbers { length numbers.now ≡ steps.now.nodes }
-    requires places { length places.now ≡ steps.now.nodes }
-    requires low { (v : ℕ) → v < steps.now.nodes → height numbers.now v ≤ 2 ^ 60 }
-    requires met { (k : ℕ) → k < steps.now.arcs →
-        height numbers.now (step_at steps.now.list.items k).from
-        + (step_at steps.now.list.items k).up
-        ≤ height numbers.now (step_at steps.now.list.items k).to }
-    ensures { (at : ℕ) → IsLeastLeaving (IsSeenBefore steps.now.list.items places.now at)
-        steps.now.arcs steps.now.list.items numbers.now places.now least →
-        IsLeastLeaving (IsSeen steps.now.list.items places.now at node 0)
-        steps.now.arcs steps.now.list.items numbers.now places.now result }
-{
-    let mut lesser = least;
-    let mut entry = steps.rows.last[node as usize];
-    while entry > 0 {
-        let k = entry as usize - 1;
-        lesser = lesser_leaving(k, steps, numbers, places, lesser);
-        entry = steps.rows.before[k];
-    }
-    lesser
-}
-
-/// The lesser of the step given and step `k`, where that leaves the reached nodes.
-fn lesser_leaving(
-    k: usize,
-    steps: &Steps,
-    numbers: &[u64],
-    places: &[u32],
-    least: Option<Leaving>,
-) -> Option<Leaving>
-    requires inside { k < length steps.now.list.items }
-    requires numbers { length numbers.now ≡ steps.now.nodes }
-    requires places { length places.now ≡ steps.now.nodes }
-    requires low { (v : ℕ) → v < steps.now.nodes → height numbers.now v ≤ 2 ^ 60 }
-    requires met { (i : ℕ) → i < steps.now.arcs →
-        height numbers.now (step_at steps.now.list.items i).from
-        + (step_at steps.now.list.items i).up
-        ≤ height numbers.now (step_at steps.now.list.items i).to }
-    ensures { (at : ℕ) → IsLeastLeaving (IsSeen steps.now.list.items places.now at
-        (step_at steps.now.list.items k).from (k + 1))
-        steps.now.arcs steps.now.list.items numbers.now places.now least →
-        IsLeastLeaving (IsSeen steps.now.list.items places.now at
-        (step_at steps.now.list.items k).from k)
-        steps.now.arcs steps.now.list.items numbers.now places.now result }
-{
-    if k >= steps.arcs {
-        return least;
-    }
-    let step = steps.at(k);
-    if places[step.from as usize] == 0 || places[step.to as usize] > 0 {
-        return least;
-    }
-    let slack = numbers[step.to as usize] - numbers[step.from as usize] - step.up as u64;
-    match least {
-        None => Some(Leaving {
-            step: k as u32,
-            slack,
-        }),
-        Some(other) => Some(lesser(other, k as u32, slack)),
-    }
-}
-
-/// The one with the lesser slack.
-fn lesser(other: Leaving, step: u32, slack: u64) -> Leaving
-    ensures { IsLesser other step slack result }
-{
-    if other.slack <= slack {
-        other
-    } else {
-        Leaving { step, slack }
-    }
 }
 
 /// Raises the numbers of the reached nodes.

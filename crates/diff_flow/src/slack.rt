@@ -2,7 +2,7 @@
 
 ghost use Rattle.std.specs.Prelude.{◌≡◌, ◌↔◌, ℕ, ◌+◌, ◌<◌, ◌≤◌, ◌^◌};
 ghost use Rattle.std.specs.Prelude.{length, slice_index, IsTrue, MatchOption};
-ghost use Rattle.diff_flow.specs.inner.Steps.{AreMet, step_at};
+ghost use Rattle.diff_flow.specs.inner.Steps.{AreMet, along_at};
 ghost use Rattle.diff_flow.specs.inner.Numbers.{height};
 ghost use Rattle.diff_flow.specs.inner.Routing.{IsSlack};
 
@@ -15,15 +15,15 @@ pub(crate) fn slack_arc(steps: &Steps, amounts: &[u64], numbers: &[u64]) -> Opti
     requires numbers { length numbers.now ≡ steps.now.nodes }
     requires low { (v : ℕ) → v < steps.now.nodes → height numbers.now v ≤ 2 ^ 60 }
     requires met { (k : ℕ) → k < steps.now.arcs →
-        height numbers.now (step_at steps.now.list.items k).from
-        + (step_at steps.now.list.items k).up
-        ≤ height numbers.now (step_at steps.now.list.items k).to }
+        height numbers.now (along_at steps.now.list.items k).from
+        + (along_at steps.now.list.items k).up
+        ≤ height numbers.now (along_at steps.now.list.items k).to }
     ensures { MatchOption result
         (AreMet steps.now.list.items amounts.now (height numbers.now))
         (IsSlack steps.now.arcs steps.now.list.items amounts.now numbers.now) }
 {
     for i in 0..steps.arcs {
-        if is_slack(steps.at(i), amounts[i], numbers) {
+        if is_slack(steps.along(i), amounts[i], numbers) {
             return Some(i);
         }
     }

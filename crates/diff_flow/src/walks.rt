@@ -54,7 +54,7 @@ fn walk(at: usize, steps: &Steps, order: &[u32], limit: u64, numbers: &mut [u64]
     ensures { AreWalked steps.now.nodes steps.now.list.items limit order.now (at + 1)
         numbers.new }
 {
-    match lift(steps.at(order[at] as usize), 0, limit, numbers) {
+    match lift(steps.along(order[at] as usize), 0, limit, numbers) {
         Lifted::Kept => {}
         Lifted::Raised => {}
         Lifted::TooHigh => unreachable!(),

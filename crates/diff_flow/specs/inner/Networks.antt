@@ -1,20 +1,11 @@
 -- What a network keeps of its graph: its steps, and the longest walks.
-use Rattle.std.specs.Prelude.{◌≡◌, ℕ, ◌-◌, ◌*◌, ℤ, pos, ◌<◌, ◌≤ℤ◌, List, [], length}
-use Rattle.shape_graphs.specs.declared.graph.Arc.{Arc}
+use Rattle.std.specs.Prelude.{◌≡◌, ℕ, ◌-◌, ◌*◌, pos, List, [], length}
 use Rattle.shape_graphs.specs.declared.graph.DiffGraph.{DiffGraph}
 use Rattle.shape_graphs.specs.Paths.{HasCycle}
-use Rattle.shape_graphs.specs.Flows.{IsSolution}
+use Rattle.diff_flow.specs.Walks.{AreLongestWalks}
 use Rattle.diff_flow.specs.declared.steps.Steps.{Steps}
 use Rattle.diff_flow.specs.inner.Steps.{AreStepsOf}
 use Rattle.diff_flow.specs.inner.Numbers.{AreLeastMet, height}
-
--- the least numbers from zero upward that solve the graph: for each node the length of a longest
--- walk to it
-pub record AreLongestWalks (nodes : ℕ) (arcs : List Arc) (numbers : ℕ → ℤ) : Type 0 where
-  pub from_zero : (node : ℕ) → node < nodes → pos 0 ≤ℤ numbers node
-  pub solution : IsSolution arcs numbers
-  pub least : (others : ℕ → ℤ) → ((node : ℕ) → node < nodes → pos 0 ≤ℤ others node) →
-      IsSolution arcs others → (node : ℕ) → node < nodes → numbers node ≤ℤ others node
 
 -- the graph has no cycle, and these are its steps and its longest walks, which are the least
 -- numbers that meet the steps along all arcs

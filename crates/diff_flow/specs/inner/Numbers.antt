@@ -1,9 +1,9 @@
 -- Numbers on the nodes while they are raised.
-use Rattle.std.specs.Prelude.{◌≡◌, ℕ, ◌+◌, ◌<◌, ◌≤◌, ◌⊎◌, List, [], length, slice_index, slice_set}
+use Rattle.std.specs.Prelude.{◌≡◌, ℕ, ◌+◌, ◌*◌, ◌<◌, ◌≤◌, ◌⊎◌, List, [], length, slice_index, slice_set}
 use Rattle.diff_flow.specs.declared.steps.Step.{Step}
 use Rattle.diff_flow.specs.declared.labels.Lifted.{Lifted}
 use Rattle.diff_flow.specs.declared.labels.Lifted.TheVariants.{Kept, Raised, TooHigh}
-use Rattle.diff_flow.specs.inner.Steps.{step_at, IsOpen, Meets, AreMet}
+use Rattle.diff_flow.specs.inner.Steps.{step_at, along_at, IsOpen, Meets, AreMet}
 
 -- the number of a node
 abbrev pub height : List ℕ → ℕ → ℕ
@@ -76,13 +76,13 @@ pub record AreLeastMet (nodes : ℕ) (steps : List Step) (amounts : List ℕ) (l
   pub low : AreLow nodes steps amounts limit numbers
   pub met : AreMet steps amounts (height numbers)
 
--- those from the number on
+-- those against the arcs from the number on
 abbrev pub AreFrom : ℕ → ℕ → Type 0
-AreFrom first k = first ≤ k
+AreFrom first k = (i : ℕ) × (first ≤ i) × (k ≡ 2 * i + 1)
 
 -- the steps at the first so many places of the order are met, by numbers that are at most all that
 -- meet the steps along all arcs
 pub record AreWalked (nodes : ℕ) (steps : List Step) (limit : ℕ) (order : List ℕ) (count : ℕ)
     (numbers : List ℕ) : Type 0 where
   pub low : AreLow nodes steps [] limit numbers
-  pub met : (j : ℕ) → j < count → Meets (height numbers) (step_at steps (slice_index order j))
+  pub met : (j : ℕ) → j < count → Meets (height numbers) (along_at steps (slice_index order j))

@@ -6,15 +6,15 @@ use Rattle.shape_graphs.specs.declared.graph.Arc.{Arc}
 use Rattle.shape_graphs.specs.Flows.{amount_at, at_node, Balances, bound_of}
 use Rattle.diff_flow.specs.Amounts.{IsFlowOn}
 use Rattle.diff_flow.specs.declared.steps.Step.{Step}
-use Rattle.diff_flow.specs.inner.Steps.{step_at}
+use Rattle.diff_flow.specs.inner.Steps.{along_at}
 use Rattle.diff_flow.specs.inner.Numbers.{height}
 use Rattle.diff_flow.specs.inner.Search.{AreFit}
 
 -- what comes in at a node minus what goes out, by the steps along so many arcs
 abbrev pub net_by : List Step → ℕ → List ℕ → ℕ → ℤ
 net_by steps arcs amounts node =
-    sum_to (λ i. at_node (step_at steps i).to node (pos (amount_at amounts i))
-    -ℤ at_node (step_at steps i).from node (pos (amount_at amounts i))) arcs
+    sum_to (λ i. at_node (along_at steps i).to node (pos (amount_at amounts i))
+    -ℤ at_node (along_at steps i).from node (pos (amount_at amounts i))) arcs
 
 -- with what the nodes lack added, and their excess taken away, the amounts balance as the given
 -- ones do
@@ -66,8 +66,8 @@ pub record IsMoved (nodes arcs : ℕ) (steps : List Step) (amount start goal : �
   pub net : (v : ℕ) → v < nodes → net_by steps arcs amounts' v +ℤ at_node start v (pos amount)
       ≡ net_by steps arcs amounts v +ℤ at_node goal v (pos amount)
   pub tight : (i : ℕ) → i < arcs → amount_at amounts i < amount_at amounts' i →
-      height numbers (step_at steps i).to
-      ≡ height numbers (step_at steps i).from + (step_at steps i).up
+      height numbers (along_at steps i).to
+      ≡ height numbers (along_at steps i).from + (along_at steps i).up
   pub most : (i : ℕ) → i < arcs → amount_at amounts' i ≤ amount_at amounts i + amount
 
 -- Amounts on slack arcs below n are dropped: they are in excess at the nodes where the arcs begin,
@@ -78,15 +78,15 @@ pub record AreDropped (nodes arcs n : ℕ) (steps : List Step)
   pub low : sum over ≤ n * 2 ^ 50
   pub rest : (i : ℕ) → n ≤ i → i < arcs → amount_at amounts i ≤ 2 ^ 50
   pub tight : (i : ℕ) → i < n → i < arcs → 0 < amount_at amounts i →
-      height numbers (step_at steps i).to
-      ≡ height numbers (step_at steps i).from + (step_at steps i).up
+      height numbers (along_at steps i).to
+      ≡ height numbers (along_at steps i).from + (along_at steps i).up
 
 -- the arc has an amount, and the numbers more than meet it
 pub record IsSlack (arcs : ℕ) (steps : List Step) (amounts numbers : List ℕ) (i : ℕ) : Type 0 where
   pub inside : i < arcs
   pub some : 0 < amount_at amounts i
-  pub more : height numbers (step_at steps i).from + (step_at steps i).up
-      < height numbers (step_at steps i).to
+  pub more : height numbers (along_at steps i).from + (along_at steps i).up
+      < height numbers (along_at steps i).to
 
 -- The amounts balance as before, the arc has less than before, only tight arcs have more, by 1 at
 -- most.
@@ -96,8 +96,8 @@ pub record IsDetour (nodes arcs : ℕ) (steps : List Step) (numbers amounts amou
   pub net : (v : ℕ) → v < nodes → net_by steps arcs amounts' v ≡ net_by steps arcs amounts v
   pub less : amount_at amounts' i < amount_at amounts i
   pub tight : (k : ℕ) → k < arcs → amount_at amounts k < amount_at amounts' k →
-      height numbers (step_at steps k).to
-      ≡ height numbers (step_at steps k).from + (step_at steps k).up
+      height numbers (along_at steps k).to
+      ≡ height numbers (along_at steps k).from + (along_at steps k).up
   pub most : (k : ℕ) → k < arcs → amount_at amounts' k ≤ amount_at amounts k + 1
 
 -- one number for each node, at most the limit, which meets each arc
@@ -105,8 +105,8 @@ pub record AreFirst (nodes arcs limit : ℕ) (steps : List Step) (numbers : List
   pub one_for_each : length numbers ≡ nodes
   pub low : (v : ℕ) → v < nodes → height numbers v ≤ limit
   pub met : (k : ℕ) → k < arcs →
-      height numbers (step_at steps k).from + (step_at steps k).up
-      ≤ height numbers (step_at steps k).to
+      height numbers (along_at steps k).from + (along_at steps k).up
+      ≤ height numbers (along_at steps k).to
 
 -- the flow balances, and its bound is higher, but not by much
 pub record IsNear (nodes : ℕ) (arcs : List Arc) (amounts near : List ℕ) : Type 0 where

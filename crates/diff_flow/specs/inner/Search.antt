@@ -4,9 +4,9 @@ use Rattle.std.specs.Prelude.{slice_index, slice_index_or, slice_set, sum_by, Bo
 use Rattle.std.specs.Prelude.{Option, Some, None, ◌⊎◌}
 use Rattle.shape_graphs.specs.Flows.{amount_at}
 use Rattle.diff_flow.specs.declared.steps.Step.{Step}
-use Rattle.diff_flow.specs.declared.search.Reached.{Reached}
-use Rattle.diff_flow.specs.declared.search.Leaving.{Leaving}
-use Rattle.diff_flow.specs.inner.Steps.{step_at, AreMet}
+use Rattle.diff_flow.specs.declared.tree.Reached.{Reached}
+use Rattle.diff_flow.specs.declared.leaving.Leaving.{Leaving}
+use Rattle.diff_flow.specs.inner.Steps.{step_at, along_at, AreMet}
 use Rattle.diff_flow.specs.inner.Numbers.{height}
 
 -- the entry that stands for one that is not there
@@ -133,9 +133,9 @@ ArePassed steps amounts numbers tree places count =
     (j : ℕ) → j < count → ArePassedFrom steps amounts numbers places (entry_at tree j).node 0
 
 -- the step leads along an arc from a reached node to one that is not, and has this slack
-pub record IsLeaving (arcs : ℕ) (steps : List Step) (numbers places : List ℕ)
-    (k slack : ℕ) : Type 0 where
-  pub inside : k < arcs
+pub record IsLeaving (steps : List Step) (numbers places : List ℕ) (k slack : ℕ) : Type 0 where
+  pub inside : k < length steps
+  pub along : 0 < (step_at steps k).up
   pub from : 0 < slice_index places (step_at steps k).from
   pub to : slice_index places (step_at steps k).to ≡ 0
   pub just : height numbers (step_at steps k).to
@@ -151,12 +151,12 @@ IsSeen steps places at node entry k =
     IsSeenBefore steps places at k ⊎ (((step_at steps k).from ≡ node) × (entry ≤ k))
 
 -- of the steps that were seen the one that leaves with the least slack, or none
-abbrev pub IsLeastLeaving : (ℕ → Type 0) → ℕ → List Step → List ℕ → List ℕ → Option Leaving → Type 0
-IsLeastLeaving seen arcs steps numbers places None =
-    (k slack : ℕ) → seen k → IsLeaving arcs steps numbers places k slack → ⊥
-IsLeastLeaving seen arcs steps numbers places (Some leaving) =
-    IsLeaving arcs steps numbers places leaving.step leaving.slack
-    × ((k slack : ℕ) → seen k → IsLeaving arcs steps numbers places k slack →
+abbrev pub IsLeastLeaving : (ℕ → Type 0) → List Step → List ℕ → List ℕ → Option Leaving → Type 0
+IsLeastLeaving seen steps numbers places None =
+    (k slack : ℕ) → seen k → IsLeaving steps numbers places k slack → ⊥
+IsLeastLeaving seen steps numbers places (Some leaving) =
+    IsLeaving steps numbers places leaving.step leaving.slack
+    × ((k slack : ℕ) → seen k → IsLeaving steps numbers places k slack →
     leaving.slack ≤ slack)
 
 -- one of the two, with a slack of at most that of both
@@ -179,7 +179,7 @@ pub record IsTrap (nodes arcs : ℕ) (steps : List Step) (amounts want : List �
     (marks : ℕ → ℕ) : Type 0 where
   pub begins : 0 < marks start
   pub none_lacks : (v : ℕ) → v < nodes → 0 < marks v → slice_index want v ≡ 0
-  pub none_leaves : (k : ℕ) → k < arcs → 0 < marks (step_at steps k).from →
-      0 < marks (step_at steps k).to
-  pub none_enters : (k : ℕ) → k < arcs → 0 < amount_at amounts k → 0 < marks (step_at steps k).to →
-      0 < marks (step_at steps k).from
+  pub none_leaves : (k : ℕ) → k < arcs → 0 < marks (along_at steps k).from →
+      0 < marks (along_at steps k).to
+  pub none_enters : (k : ℕ) → k < arcs → 0 < amount_at amounts k → 0 < marks (along_at steps k).to →
+      0 < marks (along_at steps k).from

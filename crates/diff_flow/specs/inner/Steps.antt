@@ -1,5 +1,5 @@
 -- Steps between nodes, forwards over each arc and backwards over each.
-use Rattle.std.specs.Prelude.{◌≡◌, ℕ, ◌+◌, ◌-◌, ◌<◌, ◌≤◌, pos, List, length}
+use Rattle.std.specs.Prelude.{◌≡◌, ℕ, ◌+◌, ◌-◌, ◌*◌, ◌<◌, ◌≤◌, pos, List, [], ◌∷◌, ◌++◌, length}
 use Rattle.std.specs.Prelude.{slice_index, slice_index_or}
 use Rattle.shape_graphs.specs.declared.graph.Arc.{Arc}
 use Rattle.shape_graphs.specs.Arcs.{arc_at}
@@ -13,6 +13,14 @@ no_step = record { from = 0; to = 0; arc = 0; up = 0; down = 0 }
 -- the step of a number
 abbrev pub step_at : List Step → ℕ → Step
 step_at steps k = slice_index_or steps k no_step
+
+-- the step along the arc of a number
+abbrev pub along_at : List Step → ℕ → Step
+along_at steps i = step_at steps (2 * i)
+
+-- the step against it
+abbrev pub against_at : List Step → ℕ → Step
+against_at steps i = step_at steps (2 * i + 1)
 
 -- the ends of every step are nodes, it belongs to an arc, and it goes up or down by at most the
 -- reach
@@ -58,12 +66,19 @@ pub record IsAgainst (arc : Arc) (i : ℕ) (step : Step) : Type 0 where
   pub up : step.up ≡ 0
   pub down : pos step.down ≡ arc.least
 
--- the steps along all arcs, and then those against all
+-- for each arc the step along it, and then the one against it
 pub record AreStepsOf (arcs : List Arc) (steps : List Step) : Type 0 where
-  pub two_for_each : length steps ≡ length arcs + length arcs
-  pub along : (i : ℕ) → i < length arcs → IsAlong (arc_at arcs i) i (step_at steps i)
-  pub against : (i : ℕ) → i < length arcs →
-      IsAgainst (arc_at arcs i) i (step_at steps (length arcs + i))
+  pub two_for_each : length steps ≡ 2 * length arcs
+  pub along : (i : ℕ) → i < length arcs → IsAlong (arc_at arcs i) i (along_at steps i)
+  pub against : (i : ℕ) → i < length arcs → IsAgainst (arc_at arcs i) i (against_at steps i)
+
+-- with the two steps of the arc of this number at the end
+pub record AreOneMore (arc : Arc) (i : ℕ) (steps steps' : List Step) : Type 0 where
+  pub there : Step
+  pub back : Step
+  pub along : IsAlong arc i there
+  pub against : IsAgainst arc i back
+  pub grown : steps' ≡ steps ++ there ∷ back ∷ []
 
 -- the step goes back over the other, against its arc
 pub record IsBack (step back : Step) : Type 0 where
@@ -75,11 +90,11 @@ pub record IsBack (step back : Step) : Type 0 where
 
 -- each of so many arcs has a step along it, which goes up, and one against it
 pub record ArePaired (arcs : ℕ) (steps : List Step) : Type 0 where
-  pub two_for_each : length steps ≡ arcs + arcs
-  pub number : (i : ℕ) → i < arcs → (step_at steps i).arc ≡ i
-  pub up : (i : ℕ) → i < arcs → 0 < (step_at steps i).up
-  pub level : (i : ℕ) → i < arcs → (step_at steps i).down ≡ 0
-  pub back : (i : ℕ) → i < arcs → IsBack (step_at steps i) (step_at steps (arcs + i))
+  pub two_for_each : length steps ≡ 2 * arcs
+  pub number : (i : ℕ) → i < arcs → (along_at steps i).arc ≡ i
+  pub up : (i : ℕ) → i < arcs → 0 < (along_at steps i).up
+  pub level : (i : ℕ) → i < arcs → (along_at steps i).down ≡ 0
+  pub back : (i : ℕ) → i < arcs → IsBack (along_at steps i) (against_at steps i)
 
 -- the step is open for the amounts: it goes along its arc, or the arc's amount is positive
 abbrev pub IsOpen : List ℕ → Step → Type 0
@@ -100,4 +115,4 @@ pub record AreInOrder (arcs : ℕ) (steps : List Step) (order : List ℕ) : Type
   pub inside : (j : ℕ) → j < length order → slice_index order j < arcs
   pub has_each : (k : ℕ) → k < arcs → (j : ℕ) × (j < length order) × (slice_index order j ≡ k)
   pub ends_before : (i j : ℕ) → i < length order → j < length order →
-      (step_at steps (slice_index order j)).to ≡ (step_at steps (slice_index order i)).from → j < i
+      (along_at steps (slice_index order j)).to ≡ (along_at steps (slice_index order i)).from → j < i

@@ -10,7 +10,7 @@ use Rattle.diff_flow.proofs.better.find_better.Goals as goal
 
 pub returns-in_default : goal.returns-in_default
 returns-in_default c =
-    best_where_met c.args.graph.now.value c.args.steps.now c.args.flow.now.amounts (height c.args.walks.now) c.requires.made.steps_of c.requires.balances
+    best_where_met c.args.graph.now.value c.args.steps.now c.args.flow.now.amounts (height c.args.first.now) c.requires.steps c.requires.balances
     (rw c.as_slice-amounts.ensures at c.in_default.ensures)
 
 pub slack_arc-requires-2-clause-met : goal.slack_arc-requires-2-clause-met
@@ -23,25 +23,24 @@ slack_arc-requires-2-clause-met c =
       c.as_mut_slice.ensures.len,
       ap length c.as_mut_slice.ensures.value,
       ap length c.in_ok-numbers.ensures.items,
-      c.requires.made.least_met.low.one_for_each,
+      c.requires.first.one_for_each,
     )) in
     rises_along steps.arcs steps.list.items c.in_ok-routed.routed.items (height c.as_slice.result.now) steps.paired
     (subst (λ (ns : List ℕ). AreMet steps.list.items c.in_ok-routed.routed.items (height ns)) (sym whole) c.in_ok-routed.ensures.met)
 
 pub returns-in_default-slack_arc : goal.returns-in_default-slack_arc
 returns-in_default-slack_arc c =
-    best_where_met c.args.graph.now.value c.args.steps.now c.args.flow.now.amounts (height c.as_slice.result.now) c.requires.made.steps_of c.requires.balances
+    best_where_met c.args.graph.now.value c.args.steps.now c.args.flow.now.amounts (height c.as_slice.result.now) c.requires.steps c.requires.balances
     (rw c.as_slice-amounts.ensures at c.in_default-slack_arc.ensures)
 
 pub narrowed-requires : goal.narrowed-requires
 narrowed-requires c = λ i inside.
     let steps = c.args.steps.now in
     let graph = c.args.graph.now.value in
-    let is = c.requires.made in
-    let all : length c.in_ok-routed.routed.items ≡ length graph.arcs = c.in_ok-routed.ensures.len ∙ is.arcs in
+    let all : length c.in_ok-routed.routed.items ≡ length graph.arcs = c.in_ok-routed.ensures.len ∙ c.requires.arcs in
     let low = best_low graph.nodes graph.arcs steps.list.items c.args.flow.now.amounts c.in_ok-routed.routed.items (height c.route.new.numbers)
-    graph.ends graph.within graph.few is.steps_of c.requires.balances all
-    (λ v v_in. rw (is.arcs, c.as_slice-amounts.ensures) at (c.in_ok-routed.ensures.net v (omega (arith, v_in, is.nodes))))
+    graph.ends graph.within graph.few c.requires.steps c.requires.balances all
+    (λ v v_in. rw (c.requires.arcs, c.as_slice-amounts.ensures) at (c.in_ok-routed.ensures.net v (omega (arith, v_in, c.requires.nodes))))
     c.in_ok-routed.ensures.met i
     (omega (arith, inside, ap length c.as_slice-2.ensures.value, all)) in
     rw c.as_slice-2.ensures.value low
@@ -50,10 +49,9 @@ pub returns : goal.returns
 returns c =
     let steps = c.args.steps.now in
     let graph = c.args.graph.now.value in
-    let is = c.requires.made in
     let numbers = c.in_ok-numbers.numbers in
     let routed = c.in_ok-routed.routed.items in
-    let all : length routed ≡ length graph.arcs = c.in_ok-routed.ensures.len ∙ is.arcs in
+    let all : length routed ≡ length graph.arcs = c.in_ok-routed.ensures.len ∙ c.requires.arcs in
     let whole = written_whole c.route.new.numbers numbers.items numbers.len
     (omega (
       arith,
@@ -61,14 +59,14 @@ returns c =
       c.as_mut_slice.ensures.len,
       ap length c.as_mut_slice.ensures.value,
       ap length c.in_ok-numbers.ensures.items,
-      is.least_met.low.one_for_each,
+      c.requires.first.one_for_each,
     )) in
     let same = c.in_ok-amounts.ensures ∙ c.as_slice-2.ensures.value in
     record {
       best = subst (IsBestByNumbers graph.nodes graph.arcs) (sym same)
           (best_by_numbers graph.nodes graph.arcs steps.list.items c.args.flow.now.amounts routed (height c.route.new.numbers)
-          graph.ends graph.within graph.few is.steps_of c.requires.balances all
-          (λ v v_in. rw (is.arcs, c.as_slice-amounts.ensures) at (c.in_ok-routed.ensures.net v (omega (arith, v_in, is.nodes))))
+          graph.ends graph.within graph.few c.requires.steps c.requires.balances all
+          (λ v v_in. rw (c.requires.arcs, c.as_slice-amounts.ensures) at (c.in_ok-routed.ensures.net v (omega (arith, v_in, c.requires.nodes))))
           c.in_ok-routed.ensures.met);
       one_for_each = ap length whole ∙ c.in_ok-routed.ensures.one_for_each;
       low = λ v inside. subst (λ (ns : List ℕ). height ns v ≤ 2 ^ 60) (sym whole) (c.in_ok-routed.ensures.low v inside);

@@ -21,4 +21,4 @@ returns-in_ok-wait-in-Raised-clause-rises c =
     rises_raised_at steps.nodes steps.arcs steps.reach steps.list.items c.args.amounts.now c.args.limit c.args.numbers.now c.args.waits.now
     c.args.queue.now.items steps.within c.args.k c.requires.inside c.requires.rises c.at-step.result _ _ _ c.in-Raised.ensures.1.0
     c.at-step.ensures.is c.in-Raised.ensures.0 c.in-Raised.ensures.1.1 c.in-Raised.ensures.1.2
-    (rw c.requires.rises.lists.flags at c.in_ok-wait-in-Raised.ensures)
+    (rw c.requires.rises.lists.flags at c.in_ok-wait-in-Raised.ensures.waits)

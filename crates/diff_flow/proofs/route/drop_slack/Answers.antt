@@ -8,6 +8,6 @@ returns-then-numbers-step-clause-kept c = λ given spread.
     let steps = c.args.steps.now in
     let even = c.requires.dropped.even in
     kept_dropped steps.nodes steps.arcs steps.list.items given c.args.amounts.now c.args.over.now c.args.want.now c.args.i
-    c.at-step.result.from c.at-step.result.to c.requires.inside even.amounts_for_each
-    (ap (λ (s : Step). s.from) c.at-step.ensures.is) (ap (λ (s : Step). s.to) c.at-step.ensures.is)
-    (omega (arith, c.at-step.ensures.within.from, even.over_for_each)) (omega (arith, c.at-step.ensures.within.to, even.want_for_each)) spread
+    c.along-step.result.from c.along-step.result.to c.requires.inside even.amounts_for_each
+    (ap (λ (s : Step). s.from) c.along-step.ensures.is) (ap (λ (s : Step). s.to) c.along-step.ensures.is)
+    (omega (arith, c.along-step.ensures.within.from, even.over_for_each)) (omega (arith, c.along-step.ensures.within.to, even.want_for_each)) spread

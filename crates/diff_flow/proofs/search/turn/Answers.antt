@@ -24,13 +24,13 @@ raise_reached-requires-clause-by c =
     let steps = c.args.steps.now in
     let least = rw c.in-Some.is at c.least_leaving.ensures in
     slack_low steps.nodes steps.arcs steps.reach steps.list.items c.args.amounts.now c.args.numbers.now c.args.want.now _ _ _ steps.short
-    steps.within (omega (arith, least.0.inside, steps.paired.two_for_each)) c.requires.fit least.0
+    steps.within least.0.inside c.requires.fit least.0
 
 pub enter-requires-clause-few : goal.enter-requires-clause-few
 enter-requires-clause-few c =
     let steps = c.args.steps.now in
     let least = rw c.in-Some.is at c.least_leaving.ensures in
-    let inside : c.in-Some.leaving.step < length steps.list.items = omega (arith, least.0.inside, steps.paired.two_for_each) in
+    let inside : c.in-Some.leaving.step < length steps.list.items = least.0.inside in
     tree_few steps.nodes steps.list.items c.args.amounts.now c.args.numbers.now c.args.tree.now.entries.items c.args.tree.now.places.items
     (step_at steps.list.items c.in-Some.leaving.step).to c.requires.tree (steps.within c.in-Some.leaving.step inside).to least.0.to
 
@@ -47,7 +47,7 @@ returns-clause-tree c =
     let steps = c.args.steps.now in
     let least = rw c.in-Some.is at c.least_leaving.ensures in
     let raises = c.raise_reached.ensures in
-    let inside : c.in-Some.leaving.step < length steps.list.items = omega (arith, least.0.inside, steps.paired.two_for_each) in
+    let inside : c.in-Some.leaving.step < length steps.list.items = least.0.inside in
     tree_more steps.nodes steps.arcs steps.reach steps.list.items c.args.amounts.now c.raise_reached.new.numbers c.in-Some.leaving.step
     c.args.tree.now.entries.items c.enter.new.tree.entries.items c.args.tree.now.places.items c.enter.new.tree.places.items c.in_ok-enter.ensures.0
     steps.within inside

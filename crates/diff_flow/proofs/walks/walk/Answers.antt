@@ -11,7 +11,7 @@ unreachable-requires c =
     let within = c.requires.order.inside c.args.at c.requires.at in
     c.requires.some
     (too_high_at steps.nodes steps.arcs steps.reach steps.list.items _ c.args.limit c.args.numbers.now steps.within
-    c.requires.walked.low _ c.at.result (omega (arith, within, steps.paired.two_for_each)) c.requires.limit c.at.ensures.is
+    c.requires.walked.low _ c.along.result (omega (arith, within, steps.paired.two_for_each)) c.requires.limit c.along.ensures.is
     c.in-TooHigh.ensures.0 c.in-TooHigh.ensures.1)
 
 pub returns-in-Kept : goal.returns-in-Kept
@@ -21,12 +21,12 @@ returns-in-Kept c =
     steps.within steps.paired c.requires.order c.requires.at c.requires.walked in
     walked_kept steps.nodes steps.arcs steps.reach c.args.limit steps.list.items c.args.order.now c.args.at c.args.numbers.now
     steps.within steps.paired c.requires.order c.requires.at c.requires.walked c.lift.new.numbers c.in-Kept.ensures.0
-    (subst (Meets (height c.args.numbers.now)) c.at.ensures.is (c.in-Kept.ensures.1 (subst (IsOpen []) (sym c.at.ensures.is) opens)))
+    (subst (Meets (height c.args.numbers.now)) c.along.ensures.is (c.in-Kept.ensures.1 (subst (IsOpen []) (sym c.along.ensures.is) opens)))
 
 pub returns-in-Raised : goal.returns-in-Raised
 returns-in-Raised c =
     let steps = c.args.steps.now in
     let lifted = c.in-Raised.ensures.1 in
     walked_raised steps.nodes steps.arcs steps.reach c.args.limit steps.list.items c.args.order.now c.args.at c.args.numbers.now
-    steps.within steps.paired c.requires.order c.requires.at c.requires.walked c.at.result c.lift.new.numbers lifted.0 c.at.ensures.is
+    steps.within steps.paired c.requires.order c.requires.at c.requires.walked c.along.result c.lift.new.numbers lifted.0 c.along.ensures.is
     lifted.1 lifted.2

@@ -20,7 +20,7 @@ pub invariant_of-result : goal.invariant_of-result
 invariant_of-result c =
     let graph = c.args.graph.now in
     let steps = c.in_ok-steps.steps in
-    rw c.of.ensures (record {
+    rw (c.of.ensures, c.from_vec.ensures) (record {
       no_cycle = no_cycle_in_order graph.arcs _ (rw c.in-Some.is at c.in_ok-order.ensures);
       nodes = c.in_ok-steps.ensures.nodes;
       arcs = c.in_ok-steps.ensures.arcs;

@@ -1,6 +1,0 @@
-use Rattle.diff_flow.specs.inner.Search.{IsLeastLeaving, IsSeenBefore}
-use Rattle.diff_flow.proofs.search.least_leaving.Given as goal
-
-abbrev pub invariant-loop-at : goal.invariant-loop-at
-invariant-loop-at l =
-    IsLeastLeaving (IsSeenBefore l.steps.list.items l.tree.places.items l.at) l.steps.arcs l.steps.list.items l.numbers l.tree.places.items l.least
