@@ -9,4 +9,7 @@ pub mod LeastKeys
 pub mod LowKeys
 pub mod SolvingLemmas
 pub mod StartLemmas
+pub mod SolverLemmas
+pub mod VerdictLemmas
+pub mod WorkspaceLemmas
 pub mod Laws

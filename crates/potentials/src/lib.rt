@@ -5,16 +5,21 @@
 //! sources.
 #![tactic(auto)]
 
+mod begin;
 mod keys;
 mod law;
-mod ready;
+mod reached;
+mod solver;
 mod standing;
 mod total_length;
+mod verdicts;
+mod workspace;
 
 pub use keys::{FlowKey, flow_key};
 pub use law::{flows_bound_worths, least_key_exists, least_keys_are_low, lengths_by_graphs};
 pub use standing::point_of;
 pub use total_length::TotalLength;
+pub use workspace::FlowWorkspace;
 
 #[cfg(test)]
 mod tests;

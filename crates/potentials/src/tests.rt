@@ -14,6 +14,7 @@ use std::test::Fail;
 mod examples;
 mod flows;
 mod starts;
+mod workspaces;
 
 /// A spine with an arm at each end, of which the lower one turns up: its segments are the rows
 /// 0 and 1 of the lower and the upper arm, the column 2 of the spine, and the column 3 of the turn.

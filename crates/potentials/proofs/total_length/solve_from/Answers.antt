@@ -1,28 +1,16 @@
+use Rattle.std.proofs.Common.{w64}
+use Rattle.std.proofs.lemmas.Int.{to_z-of_z}
 use Rattle.compact_types.specs.declared.places.Axis.TheVariants.{X, Y}
-use Rattle.potentials.proofs.SolvingLemmas.{few_nodes_at, no_cycle_by_axis}
+use Rattle.potentials.proofs.SolvingLemmas.{few_nodes_at}
 use Rattle.potentials.proofs.total_length.solve_from.Goals as goal
 
-pub invariant_of-columns : goal.invariant_of-columns
-invariant_of-columns c =
-    let across = rw c.in-Some.is at c.in_ok-across.ensures in
-    record {
-      few_nodes = few_nodes_at c.args.bars.now c.args.extension.now.choices c.shape-what_is_known.ensures.sound c.requires.fit X c.in_ok-columns.columns c.in_ok-columns.ensures.columns;
-      no_cycle = across.1;
-      network_of = across.0;
-    }
+pub of-requires : goal.of-requires
+of-requires c =
+    few_nodes_at c.args.bars.now c.args.extension.now.choices c.shape-what_is_known.ensures.sound c.requires.fit X c.in_ok-columns.columns c.in_ok-columns.ensures.columns
 
-pub invariant_of-rows : goal.invariant_of-rows
-invariant_of-rows c =
-    let up = rw c.in-Some-2.is at c.in_ok-up.ensures in
-    record {
-      few_nodes = few_nodes_at c.args.bars.now c.args.extension.now.choices c.shape-what_is_known.ensures.sound c.requires.fit Y c.in_ok-columns.rows c.in_ok-columns.ensures.rows;
-      no_cycle = up.1;
-      network_of = up.0;
-    }
+pub of-requires-2 : goal.of-requires-2
+of-requires-2 c =
+    few_nodes_at c.args.bars.now c.args.extension.now.choices c.shape-what_is_known.ensures.sound c.requires.fit Y c.in_ok-columns.rows c.in_ok-columns.ensures.rows
 
-pub solve_acyclic-requires-clause-no_cycle : goal.solve_acyclic-requires-clause-no_cycle
-solve_acyclic-requires-clause-no_cycle c =
-    let across = rw c.in-Some.is at c.in_ok-across.ensures in
-    let up = rw c.in-Some-2.is at c.in_ok-up.ensures in
-    no_cycle_by_axis c.args.bars.now c.args.extension.now.choices c.in_ok-columns.columns c.in_ok-columns.rows
-    c.in_ok-columns.ensures.columns c.in_ok-columns.ensures.rows across.1 up.1
+pub returns-clause-asked : goal.returns-clause-asked
+returns-clause-asked c = rw (to_z-of_z w64 c.args.stop_above c.ranges.stop_above) at c.verdict_of.ensures.asked

@@ -1,7 +1,7 @@
 use Rattle.std.proofs.Common.{arith}
 use Rattle.std.proofs.lemmas.Int.{ints}
 use Rattle.potentials.proofs.SolvingLemmas.{small}
-use Rattle.potentials.proofs.ready.small_bound.Goals as goal
+use Rattle.potentials.proofs.begin.small_bound.Goals as goal
 
 pub overflow_cast-result : goal.overflow_cast-result
 overflow_cast-result c =
