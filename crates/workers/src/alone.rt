@@ -25,8 +25,8 @@ pub struct Best<P: Backing> {
 
 /// The best key of the shape in the measure, by a branch-and-bound search over the sides of pairs
 /// of segments (Klau and Mutzel): it begins with the key of the extension that the drawing gives,
-/// and settles the waiting branch with the greatest number for as long as one waits. Without memory
-/// there is no answer.
+/// and settles the waiting branch with the greatest number for as long as one waits, each in the
+/// same workspace. Without memory there is no answer.
 #[tactic(auto, using(crate::proofs::TurnLemmas::at_first))]
 pub fn search_alone<M: Measure>(
     alloc: Global,
@@ -44,9 +44,10 @@ pub fn search_alone<M: Measure>(
         HasEnded M.Proof.objective M.Proof.backs bars.now best.key best.board) }
 {
     let first = first_key(alloc, measure, bars, places)?;
+    let mut workspace = measure.workspace(alloc, bars)?;
     let mut board = Board::open_with(alloc, bars, first)?;
     let who = board.enlist();
-    settle_all(alloc, measure, bars, &mut board, who)?;
+    settle_all(alloc, measure, bars, &mut workspace, &mut board, who)?;
     answer(bars, board)
 }
 

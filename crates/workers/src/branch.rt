@@ -1,6 +1,6 @@
 //! A branch solved, without a board: the verdict on its choices, and the pair at which to split it.
 
-ghost use Rattle.std.specs.Prelude.{IfOk, MatchOption};
+ghost use Rattle.std.specs.Prelude.{IfOk, MatchOption, OnOk};
 ghost use Rattle.compact_types.specs.Bests.{IsAttained};
 ghost use Rattle.bars.specs.Solutions.{Fit};
 ghost use Rattle.shape_graphs.specs.Measures.{BacksBefore, IsAsked, IsRight};
@@ -21,13 +21,14 @@ pub(crate) struct Solved<P: Backing> {
 }
 
 /// Solves a branch with these choices. The solver may stop once its bound exceeds `stop`, the worth
-/// of some drawing, and may begin with `start`, a proof of a verdict on the choices without the
-/// last. Neither a board nor the incumbent's key goes in, so the pair serves whatever the incumbent
-/// is when the branch is settled.
+/// of some drawing, may begin with `start`, a proof of a verdict on the choices without the last,
+/// and may use what earlier branches left in the workspace. Neither a board nor the incumbent's key
+/// goes in, so the pair serves whatever the incumbent is when the branch is settled.
 pub(crate) fn solve_branch<M: Measure>(
     alloc: Global,
     measure: &M,
     bars: &Bars,
+    workspace: &mut M::Workspace,
     extension: &Extension,
     start: Option<&M::Proof>,
     stop: i64,
@@ -36,14 +37,16 @@ pub(crate) fn solve_branch<M: Measure>(
     requires start { MatchOption start (Unit {0}) (λ proof.
         BacksBefore (M.Proof.backs bars.now) extension.now.choices proof.now) }
     requires stop { IsAttained M.Proof.objective bars.now stop }
+    requires serves { M.Workspace.serves bars.now workspace.old }
     ensures sound { IfOk result (λ solved.
         IsSoundVerdict M.Proof.objective M.Proof.backs bars.now extension.now.choices
         solved.verdict) }
     ensures asked { IfOk result (λ solved. IsAsked stop solved.verdict) }
     ensures pair { IfOk result (λ solved.
         IsBranchPairFor bars.now extension.now.choices solved.verdict solved.pair) }
+    ensures serves { OnOk result (M.Workspace.serves bars.now workspace.new) }
 {
-    let verdict = measure.solve(alloc, bars, extension, start, stop)?;
+    let verdict = measure.solve_in(alloc, bars, workspace, extension, start, stop)?;
     let pair = pair_of(alloc, bars, extension, &verdict)?;
     Ok(Solved { verdict, pair })
 }

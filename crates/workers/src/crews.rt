@@ -137,6 +137,8 @@ pub(crate) fn all_work<M: Measure, G: Gate, R: Threads + Wait + Sync>(
     start: Branch,
     gate: &G,
 ) -> Met
+where
+    M::Workspace: Send,
     requires some { 0 < length desks }
     requires desks { AreDesksAt board.now word.now desks }
     requires shape { AreFor bars.now board.now word.now }
@@ -166,6 +168,8 @@ fn work_beside<M: Measure, G: Gate, R: Threads + Wait + Sync>(
     start: Branch,
     gate: &G,
 ) -> Met
+where
+    M::Workspace: Send,
     requires first { IsHandAt board.now word.now first }
     requires desks { AreDesksAt board.now word.now desks }
     requires shape { AreFor bars.now board.now word.now }

@@ -18,11 +18,11 @@ use std::alloc::Global;
 use std::sync::Wait;
 use ticket_board::TicketBoard;
 
-/// The whole life of a worker. It claims `start` first, if one is given. Of each branch that it
-/// splits it puts the first three children into its lane and goes on with the fourth. With nothing
-/// at hand it takes the first branch of its lane, and else tries each other lane once; if all are
-/// empty it looks how many branches are open. It ends if none is, or if it hears of a halt. If
-/// memory is refused it calls a halt.
+/// The whole life of a worker. It claims `start` first, if one is given. It solves all its branches
+/// in one workspace. Of each branch that it splits it puts the first three children into its lane
+/// and goes on with the fourth. With nothing at hand it takes the first branch of its lane, and
+/// else tries each other lane once; if all are empty it looks how many branches are open. It ends
+/// if none is, or if it hears of a halt. If memory is refused it calls a halt.
 pub fn work<M: Measure, G: Gate, R: Wait>(
     rt: &R,
     alloc: Global,
@@ -79,7 +79,11 @@ fn live<M: Measure, G: Gate, R: Wait>(
     ensures ended { OnOk result (HasEndedWell hand.old hand.new) }
     ensures stopped { OnErr result (IsStopped hand.old hand.new) }
 {
-    let mut kept = begin(rt, alloc, measure, bars, board, word, hand, start, gate)?;
+    // The worker's own workspace. It is made for the first branch that the worker solves.
+    let mut own: Option<M::Workspace> = None;
+    let mut kept = begin(
+        rt, alloc, measure, bars, &mut own, board, word, hand, start, gate,
+    )?;
     // Waits longer after each look that finds nothing to do, so that others get on meanwhile.
     let backoff = Backoff::new();
     for _ in rt.forever() {
@@ -88,7 +92,9 @@ fn live<M: Measure, G: Gate, R: Wait>(
         }
         match next_branch(hand, kept) {
             Some(next) => {
-                kept = advance(rt, alloc, measure, bars, board, word, hand, next, gate)?;
+                kept = advance(
+                    rt, alloc, measure, bars, &mut own, board, word, hand, next, gate,
+                )?;
                 backoff.reset();
             }
             None => {
@@ -109,6 +115,7 @@ fn begin<M: Measure, G: Gate, R: Wait>(
     alloc: Global,
     measure: &M,
     bars: &Bars,
+    workspace: &mut Option<M::Workspace>,
     board: &TicketBoard<M::Proof>,
     word: &LeastWord<M::Proof>,
     hand: &mut Hand,
@@ -117,6 +124,8 @@ fn begin<M: Measure, G: Gate, R: Wait>(
 ) -> Result<Option<Next<M::Proof>>, NoMemory>
     requires at { IsHandAt board.now word.now hand.old }
     requires shape { AreFor bars.now board.now word.now }
+    requires serves { IfSome workspace.old (M.Workspace.serves bars.now) }
+    ensures serves { IfSome workspace.new (M.Workspace.serves bars.now) }
     ensures ready { IfOk result (λ kept. IfSome kept (IsReady (M.Proof.backs bars.now))) }
     ensures begun { MatchOption start (Unit {0}) (λ branch.
         IsTakenUp hand.old.pass branch hand.new.pass) }
@@ -127,7 +136,9 @@ fn begin<M: Measure, G: Gate, R: Wait>(
         Some(branch) => {
             let start = None;
             let next = Next { branch, start };
-            advance(rt, alloc, measure, bars, board, word, hand, next, gate)
+            advance(
+                rt, alloc, measure, bars, workspace, board, word, hand, next, gate,
+            )
         }
         None => Ok(None),
     }

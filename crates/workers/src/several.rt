@@ -39,6 +39,8 @@ pub fn search<M: Measure, G: Gate, R: Threads + Wait + Sync>(
     workers: u32,
     gate: &G,
 ) -> Result<Best<M::Proof>, NoMemory>
+where
+    M::Workspace: Send,
     requires drawing { IsDrawing bars.now places.now }
     requires near { AreWithin GREATEST_THOUSANDTHS places.now }
     requires some { 1 ≤ workers }

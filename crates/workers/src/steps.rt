@@ -1,22 +1,26 @@
 //! What a worker does with one branch, and where it gets the next one from.
 
-ghost use Rattle.std.specs.Prelude.{◌≡◌, IfOk, IfSome, IsTrue, OnErr, OnOk};
+ghost use Rattle.std.specs.Prelude.{◌≡◌, IfOk, IfSome, IsTrue, MatchOption, OnErr, OnOk};
 ghost use Rattle.compact_types.specs.declared.plan.Shape.{Shape as AnyShape};
+ghost use Rattle.compact_types.specs.Bests.{IsAttained};
+ghost use Rattle.bars.specs.Solutions.{Fit};
+ghost use Rattle.shape_graphs.specs.Measures.{BacksBefore};
 ghost use Rattle.board.specs.declared.entries.Claim.TheVariants.{Yours};
 ghost use Rattle.board.specs.Histories.{open_count_of, state_of};
+ghost use Rattle.board.specs.Verdicts.{IsBranchPairFor, IsSoundVerdict};
 ghost use Rattle.ticket_board.specs.Passes.{HasSeenMore};
 ghost use Rattle.ticket_board.specs.Turns.{IsClaimed};
 ghost use Rattle.workers.specs.Hands.{AreFor, IsHandAt, IsTakenUp};
 ghost use Rattle.workers.specs.inner.Lives.{IsGoing, IsStopped};
 ghost use Rattle.workers.specs.inner.Sharing.{IsReady, MayStart};
 
-use crate::branch::solve_branch;
+use crate::branch::{Solved, solve_branch};
 use crate::gates::Gate;
 use crate::hands::Hand;
 use crate::sharing::{Next, at_first, copy_for_child, go_on, offer};
 use bars::Bars;
 use board::Claim;
-use compact_types::{Branch, NoMemory};
+use compact_types::{Branch, Extension, NoMemory};
 use least_word::LeastWord;
 use shape_graphs::{Backing, Measure};
 use std::alloc::Global;
@@ -70,13 +74,14 @@ fn try_lane(hand: &mut Hand, place: usize) -> Option<Branch>
     }
 }
 
-/// Claims the branch and, if it is this worker's, solves and settles it. The child to go on with,
-/// if it was split. Of a branch that is another's nothing is left to do here.
+/// Claims the branch and, if it is this worker's, solves it in the workspace and settles it. The
+/// child to go on with, if it was split. Of a branch that is another's nothing is left to do here.
 pub(crate) fn advance<M: Measure, G: Gate, R: Wait>(
     rt: &R,
     alloc: Global,
     measure: &M,
     bars: &Bars,
+    workspace: &mut Option<M::Workspace>,
     board: &TicketBoard<M::Proof>,
     word: &LeastWord<M::Proof>,
     hand: &mut Hand,
@@ -86,6 +91,8 @@ pub(crate) fn advance<M: Measure, G: Gate, R: Wait>(
     requires at { IsHandAt board.now word.now hand.old }
     requires shape { AreFor bars.now board.now word.now }
     requires ready { IsReady (M.Proof.backs bars.now) next }
+    requires serves { IfSome workspace.old (M.Workspace.serves bars.now) }
+    ensures serves { IfSome workspace.new (M.Workspace.serves bars.now) }
     ensures ready { IfOk result (λ kept. IfSome kept (IsReady (M.Proof.backs bars.now))) }
     ensures taken { IsTakenUp hand.old.pass next.branch hand.new.pass }
     ensures going { OnOk result (IsGoing hand.old hand.new) }
@@ -109,10 +116,11 @@ pub(crate) fn advance<M: Measure, G: Gate, R: Wait>(
     gate.at(hand.number, branch.id);
     let stop = word.read(&mut hand.seat);
     let start = start?;
-    let solved = solve_branch(
+    let solved = solve_in_own(
         alloc,
         measure,
         bars,
+        workspace,
         &branch.choices,
         start.as_ref(),
         stop as i64,
@@ -121,6 +129,38 @@ pub(crate) fn advance<M: Measure, G: Gate, R: Wait>(
     let copy = copy_for_child(alloc, measure, &solved)?;
     let what = board.settle(rt, &mut hand.pass, branch.id, solved.verdict, solved.pair)?;
     go_on(&mut hand.lane, branch, what, copy)
+}
+
+/// Solves a branch as `solve_branch` does, in the worker's own workspace. The first time it makes
+/// one: a branch to begin with is then claimed already, also where memory is refused.
+fn solve_in_own<M: Measure>(
+    alloc: Global,
+    measure: &M,
+    bars: &Bars,
+    workspace: &mut Option<M::Workspace>,
+    extension: &Extension,
+    start: Option<&M::Proof>,
+    stop: i64,
+) -> Result<Solved<M::Proof>, NoMemory>
+    requires fit { Fit bars.now extension.now.choices }
+    requires start { MatchOption start (Unit {0}) (λ proof.
+        BacksBefore (M.Proof.backs bars.now) extension.now.choices proof.now) }
+    requires stop { IsAttained M.Proof.objective bars.now stop }
+    requires serves { IfSome workspace.old (M.Workspace.serves bars.now) }
+    ensures sound { IfOk result (λ solved.
+        IsSoundVerdict M.Proof.objective M.Proof.backs bars.now extension.now.choices
+        solved.verdict) }
+    ensures pair { IfOk result (λ solved.
+        IsBranchPairFor bars.now extension.now.choices solved.verdict solved.pair) }
+    ensures serves { IfSome workspace.new (M.Workspace.serves bars.now) }
+{
+    let mut own = match workspace.take() {
+        Some(own) => own,
+        None => measure.workspace(alloc, bars)?,
+    };
+    let solved = solve_branch(alloc, measure, bars, &mut own, extension, start, stop)?;
+    *workspace = Some(own);
+    Ok(solved)
 }
 
 /// Claims the branch. If it is this worker's, a solver may begin with the proof that comes with the

@@ -16,19 +16,23 @@ use compact_types::{Branch, NoMemory};
 use shape_graphs::{Backing, Measure};
 use std::alloc::Global;
 
-/// Settles every branch: for as long as one waits, the waiting branch with the greatest number.
+/// Settles every branch, each in the same workspace: for as long as one waits, the waiting branch
+/// with the greatest number.
 pub(crate) fn settle_all<M: Measure>(
     alloc: Global,
     measure: &M,
     bars: &Bars,
+    workspace: &mut M::Workspace,
     board: &mut Board<M::Proof>,
     who: u32,
 ) -> Result<(), NoMemory>
-    requires { IsBetweenTurns bars.now who board.old }
-    ensures { OnOk result (AreAllSettled bars.now board.new) }
+    requires between { IsBetweenTurns bars.now who board.old }
+    requires serves { M.Workspace.serves bars.now workspace.old }
+    ensures settled { OnOk result (AreAllSettled bars.now board.new) }
+    ensures serves { OnOk result (M.Workspace.serves bars.now workspace.new) }
 {
     while let Some(branch) = board.latest_waiting()? {
-        turn(alloc, measure, bars, board, who, &branch)?;
+        turn(alloc, measure, bars, workspace, board, who, &branch)?;
     }
     Ok(())
 }
@@ -39,18 +43,29 @@ fn turn<M: Measure>(
     alloc: Global,
     measure: &M,
     bars: &Bars,
+    workspace: &mut M::Workspace,
     board: &mut Board<M::Proof>,
     who: u32,
     branch: &Branch,
 ) -> Result<(), NoMemory>
     requires between { IsBetweenTurns bars.now who board.old }
     requires branch { IsLatestWaiting (board_state board.old) branch.now }
-    ensures { OnOk result (IsAfterTurn bars.now who board.old board.new) }
+    requires serves { M.Workspace.serves bars.now workspace.old }
+    ensures settled { OnOk result (IsAfterTurn bars.now who board.old board.new) }
+    ensures serves { OnOk result (M.Workspace.serves bars.now workspace.new) }
 {
     claim(board, who, branch);
     let start = board.proof_before(branch.id);
     let stop = stop_of(board);
-    let solved = solve_branch(alloc, measure, bars, &branch.choices, start, stop)?;
+    let solved = solve_branch(
+        alloc,
+        measure,
+        bars,
+        workspace,
+        &branch.choices,
+        start,
+        stop,
+    )?;
     settle(board, who, branch.id, solved)?;
     Ok(())
 }

@@ -55,7 +55,16 @@ fn settle<M: Measure>(
     let none = Extension { choices };
     let start: Option<M::Proof> = None;
     let stop = stop_of(board);
-    let solved = solve_branch(alloc, measure, &bars, &none, start.as_ref(), stop)?;
+    let mut workspace = measure.workspace(alloc, &bars)?;
+    let solved = solve_branch(
+        alloc,
+        measure,
+        &bars,
+        &mut workspace,
+        &none,
+        start.as_ref(),
+        stop,
+    )?;
     board.settle(who, 0, solved.verdict, solved.pair)
 }
 

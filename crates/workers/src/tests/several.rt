@@ -6,7 +6,7 @@ ghost use Rattle.workers.specs.declared.several.TheConstants.{MOST_WORKERS};
 use crate::{Gate, NoGate, search};
 use bars::{Bars, bars_of_points};
 use compact_types::{Extension, Flows, NoMemory, Places};
-use potentials::TotalLength;
+use potentials::{FlowWorkspace, TotalLength};
 use shape_graphs::{Measure, Verdict};
 use std::alloc::Global;
 use std::sync::Wait;
@@ -61,6 +61,8 @@ fn finds<M: Measure, G: Gate, R: Threads + Wait + Sync>(
     gate: &G,
     best_points: &[(i32, i32)],
 ) -> Result<bool, NoMemory>
+where
+    M::Workspace: Send,
     requires some { 1 ≤ workers }
     requires few { workers ≤ MOST_WORKERS }
 {
@@ -80,6 +82,8 @@ fn finds_spine<M: Measure, G: Gate, R: Threads + Wait + Sync>(
     workers: u32,
     gate: &G,
 ) -> Result<bool, NoMemory>
+where
+    M::Workspace: Send,
     requires some { 1 ≤ workers }
     requires few { workers ≤ MOST_WORKERS }
 {
@@ -211,6 +215,8 @@ impl Gate for Watch {
 impl Measure for Watch {
     type Proof = Flows;
 
+    type Workspace = FlowWorkspace;
+
     fn worth(&self, bars: &Bars, places: &Places) -> i64 {
         TotalLength.worth(bars, places)
     }
@@ -219,10 +225,15 @@ impl Measure for Watch {
         TotalLength.again(alloc, proof)
     }
 
-    fn solve(
+    fn workspace(&self, alloc: Global, bars: &Bars) -> Result<FlowWorkspace, NoMemory> {
+        TotalLength.workspace(alloc, bars)
+    }
+
+    fn solve_in(
         &self,
         alloc: Global,
         bars: &Bars,
+        workspace: &mut FlowWorkspace,
         extension: &Extension,
         start: Option<&Flows>,
         stop_above: i64,
@@ -233,6 +244,17 @@ impl Measure for Watch {
                     .fetch_max(stop_above.unsigned_abs(), Ordering::SeqCst);
             }
         }
+        TotalLength.solve_in(alloc, bars, workspace, extension, start, stop_above)
+    }
+
+    fn solve(
+        &self,
+        alloc: Global,
+        bars: &Bars,
+        extension: &Extension,
+        start: Option<&Flows>,
+        stop_above: i64,
+    ) -> Result<Verdict<Flows>, NoMemory> {
         TotalLength.solve(alloc, bars, extension, start, stop_above)
     }
 }
@@ -271,12 +293,34 @@ struct Refused;
 impl Measure for Refused {
     type Proof = Flows;
 
+    type Workspace = FlowWorkspace;
+
     fn worth(&self, bars: &Bars, places: &Places) -> i64 {
         TotalLength.worth(bars, places)
     }
 
     fn again(&self, alloc: Global, proof: &Flows) -> Result<Flows, NoMemory> {
         TotalLength.again(alloc, proof)
+    }
+
+    fn workspace(&self, alloc: Global, bars: &Bars) -> Result<FlowWorkspace, NoMemory> {
+        TotalLength.workspace(alloc, bars)
+    }
+
+    fn solve_in(
+        &self,
+        alloc: Global,
+        bars: &Bars,
+        workspace: &mut FlowWorkspace,
+        extension: &Extension,
+        start: Option<&Flows>,
+        stop_above: i64,
+    ) -> Result<Verdict<Flows>, NoMemory> {
+        let verdict = TotalLength.solve_in(alloc, bars, workspace, extension, start, stop_above)?;
+        match extension.choices.as_slice() {
+            [choice] if choice.side == 1 => Err(NoMemory),
+            _ => Ok(verdict),
+        }
     }
 
     fn solve(
@@ -287,11 +331,7 @@ impl Measure for Refused {
         start: Option<&Flows>,
         stop_above: i64,
     ) -> Result<Verdict<Flows>, NoMemory> {
-        let verdict = TotalLength.solve(alloc, bars, extension, start, stop_above)?;
-        match extension.choices.as_slice() {
-            [choice] if choice.side == 1 => Err(NoMemory),
-            _ => Ok(verdict),
-        }
+        TotalLength.solve(alloc, bars, extension, start, stop_above)
     }
 }
 

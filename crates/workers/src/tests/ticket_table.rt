@@ -54,7 +54,16 @@ fn settle_first<M: Measure, R: Wait>(
 {
     let none = first_branch(alloc).choices;
     let start: Option<M::Proof> = None;
-    let solved = solve_branch(alloc, measure, bars, &none, start.as_ref(), stop)?;
+    let mut workspace = measure.workspace(alloc, bars)?;
+    let solved = solve_branch(
+        alloc,
+        measure,
+        bars,
+        &mut workspace,
+        &none,
+        start.as_ref(),
+        stop,
+    )?;
     board.settle(rt, pass, 0, solved.verdict, solved.pair)
 }
 

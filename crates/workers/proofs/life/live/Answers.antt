@@ -86,6 +86,7 @@ loop-preserved-in-Some-next_branch g c =
       living_further c.args.hand.now c.next_branch.new.hand c.advance.new.hand c.args.start living
           c.in_ok-kept-in-Some-next_branch.ensures.going,
       c.in_ok-kept-in-Some-next_branch.ensures.ready,
+      c.advance.ensures.serves,
     )
 
 pub loop-preserved : goal.loop-preserved
@@ -94,4 +95,4 @@ loop-preserved g c =
     living_further c.args.hand.now c.has_heard.new.hand c.next_branch.new.hand c.args.start
     (living_further c.args.hand.now c.loop.hand c.has_heard.new.hand c.args.start c.loop.invariant.0 c.has_heard.ensures.going)
     c.next_branch.ensures.going in
-    (living_further c.args.hand.now c.next_branch.new.hand c.is_done.new.hand c.args.start living c.is_done.ensures.going, tt)
+    (living_further c.args.hand.now c.next_branch.new.hand c.is_done.new.hand c.args.start living c.is_done.ensures.going, tt, c.loop.invariant.2)

@@ -11,6 +11,7 @@ use Rattle.workers.proofs.steps.advance.Goals as goal
 
 pub returns-in-Taken : goal.returns-in-Taken
 returns-in-Taken g c = record {
+  serves = c.requires.serves;
   ready = tt;
   taken = c.claim_with_start-claim.ensures.taken;
   going =

@@ -63,8 +63,8 @@ settle-requires-clause-pair g c κs within =
     (choices_of (board_state c.claim.new.board) c.args.branch.now.id) c.args.branch.now.choices.choices known.choices c.in_ok-solved.solved.verdict
     c.in_ok-solved.solved.pair c.in_ok-solved.ensures.pair
 
-pub returns : goal.returns
-returns g c =
+pub returns-clause-settled : goal.returns-clause-settled
+returns-clause-settled g c =
     after_turn g.M.Proof.Backing.objective g.M.Proof.Backing.backs c.args.bars.now c.args.who c.args.board.now c.requires.between
     c.args.branch.now c.requires.branch c.claim.new.board c.settle.new.board c.in_ok-solved.solved.verdict _ c.claim.ensures
     c.in_ok-settle.ensures.settled c.settle.ensures.facts
