@@ -9,8 +9,8 @@ use Rattle.compact_types.specs.declared.plan.Shape.{Shape}
 use Rattle.bars.specs.Lines.{count_to, line_of, line_count}
 use Rattle.bars.specs.Segments.{segment_count, has_piece}
 use Rattle.bars.specs.Solutions.{HasDrawing}
-use Rattle.bars.proofs.Numbering.{count_step, count_below, count_below_bound}
-use Rattle.bars.proofs.Standing.{low_of, high_of, coordinate, rises}
+use Rattle.bars.proofs.LineNumbers.{count_step, count_below, count_below_bound}
+use Rattle.bars.proofs.LinePositions.{low_of, high_of, coordinate, rises}
 use Rattle.bars.proofs.LineEnds.{low_is_vertex, high_is_vertex}
 use Rattle.bars.proofs.SegmentLists.{filter_step, line_with_piece, count_is}
 

@@ -1,8 +1,8 @@
-pub mod Joining
-pub mod Numbering
-pub mod Searches
-pub mod Climbing
-pub mod Standing
+pub mod LineVertices
+pub mod LineNumbers
+pub mod RangeSearches
+pub mod PieceChains
+pub mod LinePositions
 pub mod LineEnds
 pub mod SegmentLists
 pub mod SegmentEnds
@@ -14,5 +14,5 @@ pub mod LineTables
 pub mod MarkTables
 pub mod CrossingTable
 pub mod SpanTable
-pub mod Sharing
+pub mod SharedVertices
 pub mod PointLemmas

@@ -11,12 +11,12 @@ use Rattle.compact_types.specs.Lookups.{piece_at, way_at, IsEnd}
 use Rattle.bars.specs.Lines.{is_axis, is_along, line_of, line_count}
 use Rattle.bars.specs.Segments.{has_piece_before, has_piece_after, first_vertex, last_vertex}
 use Rattle.bars.specs.Solutions.{HasDrawing}
-use Rattle.bars.proofs.Joining.{joined_back, is_axis_same, least_of_joined, joined_from_least}
-use Rattle.bars.proofs.Numbering.{least_from_line, line_from_least, line_taken}
-use Rattle.bars.proofs.Searches.{Passes, any_range, any_range_at, found_passes, least_passing, Least}
-use Rattle.bars.proofs.Climbing.{first_step, last_step}
-use Rattle.bars.proofs.Climbing.Climbs.{stays}
-use Rattle.bars.proofs.Standing.{GoesAlong, ClimbsAlong, low_of, high_of, coordinate, low_and_high, low_is_end, high_is_end, rises, compared}
+use Rattle.bars.proofs.LineVertices.{joined_back, is_axis_same, least_of_joined, joined_from_least}
+use Rattle.bars.proofs.LineNumbers.{least_from_line, line_from_least, line_taken}
+use Rattle.bars.proofs.RangeSearches.{Passes, any_range, any_range_at, found_passes, least_passing, Least}
+use Rattle.bars.proofs.PieceChains.{first_step, last_step}
+use Rattle.bars.proofs.PieceChains.Climbs.{stays}
+use Rattle.bars.proofs.LinePositions.{GoesAlong, ClimbsAlong, low_of, high_of, coordinate, low_and_high, low_is_end, high_is_end, rises, compared}
 
 pub is_axis_at : (a b : Axis) → a ≡ b → is_axis a b ≡ true
 is_axis_at X X same = refl

@@ -12,8 +12,8 @@ use Rattle.bars.specs.Ends.{StandsFirst, StandsLast, IsLowNode, IsHighNode}
 use Rattle.bars.specs.Lines.{line_of, line_count}
 use Rattle.bars.specs.Segments.{segment_count, segment_at, IsOnSegment, IsPieceOf, ShareVertex, first_vertex, last_vertex, low_node, high_node}
 use Rattle.bars.specs.Solutions.{HasDrawing}
-use Rattle.bars.proofs.Climbing.{climb_rises, climb_grows}
-use Rattle.bars.proofs.Standing.{GoesAlong, ClimbsAlong, low_of, high_of, coordinate, rises, compared}
+use Rattle.bars.proofs.PieceChains.{climb_rises, climb_grows}
+use Rattle.bars.proofs.LinePositions.{GoesAlong, ClimbsAlong, low_of, high_of, coordinate, rises, compared}
 use Rattle.bars.proofs.LineEnds.{first_is_first, last_is_last, line_of_low}
 use Rattle.bars.proofs.SegmentLists.{segment_of_piece, segments_differ, row_before_column}
 use Rattle.bars.proofs.SegmentEnds.{axis_or_other, low_vertex, high_vertex, low_stands, high_stands, piece_on, piece_low_on, piece_high_on}

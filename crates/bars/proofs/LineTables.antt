@@ -11,7 +11,7 @@ use Rattle.compact_types.specs.Lookups.{piece_at, way_at, axis_of}
 use Rattle.bars.specs.Lines.{is_axis, is_along, least_by, least_in_line, count_to, is_least, line_of}
 use Rattle.bars.specs.inner.Leads.{AreLeads}
 use Rattle.bars.specs.inner.Tables.{AreNumbered}
-use Rattle.bars.proofs.Joining.{least_below}
+use Rattle.bars.proofs.LineVertices.{least_below}
 
 -- at first each vertex is the least of its line
 pub single_leads : (axis : Axis) (shape : Shape) (leads : List ℕ) → length leads ≡ shape.plan.vertices →

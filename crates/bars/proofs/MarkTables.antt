@@ -17,7 +17,7 @@ use Rattle.bars.specs.Lines.{is_axis, is_along, line_of, line_count}
 use Rattle.bars.specs.Segments.{has_piece_before, has_piece_after}
 use Rattle.bars.specs.inner.Marks.{AreMarked, AreMarks, first_unmarked_in, AreFirstUnmarked, AreLineEnds}
 use Rattle.bars.specs.inner.Tables.{AreLines}
-use Rattle.bars.proofs.Numbering.{line_below}
+use Rattle.bars.proofs.LineNumbers.{line_below}
 
 -- one number more in a search
 or_assoc : (a b c : Bool) → (a || (b || c)) ≡ ((a || b) || c)

@@ -6,9 +6,9 @@ use Rattle.compact_types.specs.declared.plan.Shape.{Shape}
 use Rattle.compact_types.specs.Lookups.{other_axis}
 use Rattle.bars.specs.Lines.{is_axis, line_count}
 use Rattle.bars.specs.Segments.{segment_count, segment_at, first_vertex, last_vertex, node_of, node_count, low_node, high_node}
-use Rattle.bars.proofs.Searches.{found_below}
-use Rattle.bars.proofs.Numbering.{line_below}
-use Rattle.bars.proofs.Joining.{is_axis_other}
+use Rattle.bars.proofs.RangeSearches.{found_below}
+use Rattle.bars.proofs.LineNumbers.{line_below}
+use Rattle.bars.proofs.LineVertices.{is_axis_other}
 use Rattle.bars.proofs.LineEnds.{low_is_vertex}
 use Rattle.bars.proofs.SegmentLists.{segment_line}
 use Rattle.bars.proofs.SegmentEnds.{axis_or_other}

@@ -13,10 +13,10 @@ use Rattle.bars.specs.Lines.{is_axis, line_of, line_count}
 use Rattle.bars.specs.Segments.{segment_count, segment_at, IsOnSegment, IsPieceOf, first_vertex, last_vertex, node_of, low_node, high_node}
 use Rattle.bars.specs.Sides.{StandsBefore}
 use Rattle.bars.specs.Solutions.{HasDrawing}
-use Rattle.bars.proofs.Numbering.{line_taken}
-use Rattle.bars.proofs.Climbing.{climbs_through, climb_grows, covered}
-use Rattle.bars.proofs.Climbing.Climbs.{stays, steps}
-use Rattle.bars.proofs.Standing.{GoesAlong, ClimbsAlong, low_of, high_of, coordinate, other_twice, rises, level_line, spans_on, on_spans, Spans}
+use Rattle.bars.proofs.LineNumbers.{line_taken}
+use Rattle.bars.proofs.PieceChains.{climbs_through, climb_grows, covered}
+use Rattle.bars.proofs.PieceChains.Climbs.{stays, steps}
+use Rattle.bars.proofs.LinePositions.{GoesAlong, ClimbsAlong, low_of, high_of, coordinate, other_twice, rises, level_line, spans_on, on_spans, Spans}
 use Rattle.bars.proofs.LineEnds.{is_axis_at, in_line_from_number, line_of_low, line_of_high, low_is_vertex, high_is_vertex, IsFirst, IsLast, first_is_first, last_is_last}
 use Rattle.bars.proofs.SegmentLists.{IsLineWithPiece, segment_line}
 

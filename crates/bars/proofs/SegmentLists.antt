@@ -9,10 +9,10 @@ use Rattle.compact_types.specs.declared.plan.Shape.{Shape}
 use Rattle.compact_types.specs.Lookups.{other_axis}
 use Rattle.bars.specs.Lines.{line_of, line_count}
 use Rattle.bars.specs.Segments.{Segment, has_piece, is_in_line, segments_along, segment_count, segment_at}
-use Rattle.bars.proofs.Joining.{is_axis_same}
-use Rattle.bars.proofs.Numbering.{line_below}
-use Rattle.bars.proofs.Searches.{Passes, any_range, any_range_at, first_or_later}
-use Rattle.bars.proofs.Standing.{GoesAlong, low_of, high_of}
+use Rattle.bars.proofs.LineVertices.{is_axis_same}
+use Rattle.bars.proofs.LineNumbers.{line_below}
+use Rattle.bars.proofs.RangeSearches.{Passes, any_range, any_range_at, first_or_later}
+use Rattle.bars.proofs.LinePositions.{GoesAlong, low_of, high_of}
 use Rattle.bars.proofs.LineEnds.{is_axis_at, line_of_low, line_of_high, low_is_vertex}
 
 -- one number more of a range that is filtered

@@ -12,7 +12,7 @@ ghost use Rattle.bars.specs.inner.Invariant.{do_cross};
 
 use crate::crossings::crossings_of;
 use crate::lines::{Lines, lines_along};
-use crate::spans::{Span, add_spans};
+use crate::spans::{SegmentSpan, add_spans};
 use compact_types::{Axis, NoMemory, Shape};
 use std::alloc::Global;
 use std::marker::Model;
@@ -28,7 +28,7 @@ pub struct Bars {
     rows: Lines,
     columns: Lines,
     /// The segments, of which the first `row_segments` are rows.
-    spans: Vec<Span>,
+    spans: Vec<SegmentSpan>,
     row_segments: usize,
     /// Row by row, whether the row and a column have a vertex in common.
     crossings: Vec<bool>,

@@ -13,7 +13,7 @@ use std::alloc::Global;
 /// A segment: its line, and the lines across in which it begins and ends. A row has the columns of
 /// its western and its eastern end, a column the rows of its lower and its higher end.
 #[derive(Clone, Copy, Debug)]
-pub(crate) struct Span {
+pub(crate) struct SegmentSpan {
     pub(crate) line: u32,
     pub(crate) first: u32,
     pub(crate) last: u32,
@@ -22,7 +22,7 @@ pub(crate) struct Span {
 /// Adds the spans of the lines along the axis that have a piece, in the order of their numbers.
 pub(crate) fn add_spans(
     alloc: Global,
-    spans: &mut Vec<Span>,
+    spans: &mut Vec<SegmentSpan>,
     shape: &Shape,
     axis: Axis,
     lines: &Lines,
@@ -39,7 +39,7 @@ pub(crate) fn add_spans(
     let last = ends.last.as_slice();
     let line_across = across.of.as_slice();
     for line in 0..lines.count {
-        let span = Span {
+        let span = SegmentSpan {
             line,
             first: line_across[first[line as usize] as usize],
             last: line_across[last[line as usize] as usize],
@@ -50,7 +50,7 @@ pub(crate) fn add_spans(
 }
 
 /// Adds the span if its line has a piece.
-fn push_if(spans: &mut Vec<Span>, span: Span, has_piece: bool) -> Result<(), NoMemory>
+fn push_if(spans: &mut Vec<SegmentSpan>, span: SegmentSpan, has_piece: bool) -> Result<(), NoMemory>
     ensures { OnOk result (spans.new.items
         ≡ cond has_piece (spans.old.items ++ span ∷ []) spans.old.items) }
 {

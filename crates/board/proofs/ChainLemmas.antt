@@ -6,9 +6,9 @@ use Rattle.std.proofs.Math.Seq.{get_or-append_seam, take-suc, append_snoc}
 use Rattle.compact_types.specs.declared.search.Choice.{Choice}
 use Rattle.bars.specs.Solutions.{with_choice}
 use Rattle.board.specs.declared.chains.Fork.{Fork}
-use Rattle.board.specs.declared.chains.Step.{Step}
+use Rattle.board.specs.declared.chains.StepUp.{StepUp}
 use Rattle.board.specs.Histories.{children_of}
-use Rattle.board.specs.inner.Chains.{chain_at, fork_at, grown, lists_of, HaveParents, IsStep, IsWalk, IsGathered}
+use Rattle.board.specs.inner.Chains.{chain_at, fork_at, grown, lists_of, HaveParents, IsStepUp, IsChainWalk, IsGathered}
 
 -- lists with one more value at the end are equal only by both parts
 pub snoc_equal : {A : Type 0} (xs ys : List A) (a b : A) → xs ++ a ∷ [] ≡ ys ++ b ∷ [] → (xs ≡ ys) × (a ≡ b)
@@ -100,9 +100,9 @@ choice_by : (choice : Choice) (s t side : ℕ) → choice.s ≡ s → choice.t �
 choice_by choice s t side p q r = rw (← p, ← q, ← r) refl
 
 -- the step up from a branch to the parent of its fork
-pub step_is : (forks : List Fork) (id : ℕ) (step : Step) → HaveParents forks → 0 < id → id < length (lists_of forks) →
+pub step_is : (forks : List Fork) (id : ℕ) (step : StepUp) → HaveParents forks → 0 < id → id < length (lists_of forks) →
     step.parent ≡ (fork_at forks ((id - 1) / 4)).parent → step.choice.s ≡ (fork_at forks ((id - 1) / 4)).s →
-    step.choice.t ≡ (fork_at forks ((id - 1) / 4)).t → step.choice.side ≡ (id - 1) % 4 → IsStep (lists_of forks) id step
+    step.choice.t ≡ (fork_at forks ((id - 1) / 4)).t → step.choice.side ≡ (id - 1) % 4 → IsStepUp (lists_of forks) id step
 step_is forks id step parents positive below parent s t side =
     let k = (id - 1) / 4 in
     let inside = fork_below forks id positive below in
@@ -139,14 +139,14 @@ take_back : (choices : List Choice) (n : ℕ) → n < length choices → (d : Ch
 take_back choices n below d = take-suc choices n d below
 
 pub walk_start : (lists : List (List Choice)) (id : ℕ) (choices : List Choice) → id < length lists →
-    IsWalk lists id choices id (length choices)
+    IsChainWalk lists id choices id (length choices)
 walk_start lists id choices below = record {
   below = below;
   within = omega arith;
   same = let whole = take_all (length choices) choices (omega arith) in rw whole ((λ e. e), (λ e. e));
 }
 
-pub walk_end : (lists : List (List Choice)) (id : ℕ) (choices : List Choice) (at left : ℕ) → IsWalk lists id choices at left →
+pub walk_end : (lists : List (List Choice)) (id : ℕ) (choices : List Choice) (at left : ℕ) → IsChainWalk lists id choices at left →
     chain_at lists at ≡ [] → (chain_at lists id ≡ choices) ↔ (left ≡ 0)
 walk_end lists id choices at left walk root = (
   (λ e. let taken = walk.same.0 e in empty_taken left choices walk.within (sym root ∙ taken)),
@@ -159,8 +159,8 @@ walk_end lists id choices at left walk root = (
     empty_taken (suc n) (x ∷ xs) within e = cc
 
 -- the choices that are left end in the last choice of the branch that is reached
-walk_last : (lists : List (List Choice)) (id : ℕ) (choices : List Choice) (at left : ℕ) (step : Step) (d : Choice) →
-    IsWalk lists id choices at left → IsStep lists at step → 0 < left →
+walk_last : (lists : List (List Choice)) (id : ℕ) (choices : List Choice) (at left : ℕ) (step : StepUp) (d : Choice) →
+    IsChainWalk lists id choices at left → IsStepUp lists at step → 0 < left →
     (chain_at lists id ≡ choices)
     ↔ (chain_at lists step.parent ++ step.choice ∷ [] ≡ take (left - 1) choices ++ get_or choices (left - 1) d ∷ [])
 walk_last lists id choices at left step d walk up positive =
@@ -171,9 +171,9 @@ walk_last lists id choices at left step d walk up positive =
     ap (λ n. take n choices) (sym one) ∙ take_back choices (left - 1) inside d in
     ((λ e. sym up.chain ∙ walk.same.0 e ∙ taken), (λ e. walk.same.1 (up.chain ∙ e ∙ sym taken)))
 
-pub walk_step : (lists : List (List Choice)) (id : ℕ) (choices : List Choice) (at left : ℕ) (step : Step) (d : Choice) →
-    IsWalk lists id choices at left → IsStep lists at step → 0 < left → get_or choices (left - 1) d ≡ step.choice →
-    IsWalk lists id choices step.parent (left - 1)
+pub walk_step : (lists : List (List Choice)) (id : ℕ) (choices : List Choice) (at left : ℕ) (step : StepUp) (d : Choice) →
+    IsChainWalk lists id choices at left → IsStepUp lists at step → 0 < left → get_or choices (left - 1) d ≡ step.choice →
+    IsChainWalk lists id choices step.parent (left - 1)
 walk_step lists id choices at left step d walk up positive equal =
     let below = walk.below in
     let before = up.before in
@@ -188,15 +188,15 @@ walk_step lists id choices at left step d walk up positive equal =
       );
     }
 
-pub walk_short : (lists : List (List Choice)) (id : ℕ) (choices : List Choice) (at left : ℕ) (step : Step) →
-    IsWalk lists id choices at left → IsStep lists at step → left ≡ 0 → chain_at lists id ≡ choices → ⊥
+pub walk_short : (lists : List (List Choice)) (id : ℕ) (choices : List Choice) (at left : ℕ) (step : StepUp) →
+    IsChainWalk lists id choices at left → IsStepUp lists at step → left ≡ 0 → chain_at lists id ≡ choices → ⊥
 walk_short lists id choices at left step walk up none same =
     let taken = sym up.chain ∙ walk.same.0 same ∙ ap (λ n. take n choices) none in
     let lengths = ap length taken in
     omega (arith, lengths, length-append (chain_at lists step.parent) (step.choice ∷ []))
 
-pub walk_other : (lists : List (List Choice)) (id : ℕ) (choices : List Choice) (at left : ℕ) (step : Step) (d : Choice) →
-    IsWalk lists id choices at left → IsStep lists at step → 0 < left →
+pub walk_other : (lists : List (List Choice)) (id : ℕ) (choices : List Choice) (at left : ℕ) (step : StepUp) (d : Choice) →
+    IsChainWalk lists id choices at left → IsStepUp lists at step → 0 < left →
     (get_or choices (left - 1) d ≡ step.choice → ⊥) → chain_at lists id ≡ choices → ⊥
 walk_other lists id choices at left step d walk up positive other same =
     let last = walk_last lists id choices at left step d walk up positive in
@@ -206,8 +206,8 @@ walk_other lists id choices at left step d walk up positive other same =
 pub gather_start : (lists : List (List Choice)) (id : ℕ) → id < length lists → IsGathered lists id id []
 gather_start lists id below = record { below = below; chain = sym (append-nil (chain_at lists id)) }
 
-pub gather_step : (lists : List (List Choice)) (id at : ℕ) (gathered : List Choice) (step : Step) →
-    IsGathered lists id at gathered → IsStep lists at step → IsGathered lists id step.parent (gathered ++ step.choice ∷ [])
+pub gather_step : (lists : List (List Choice)) (id at : ℕ) (gathered : List Choice) (step : StepUp) →
+    IsGathered lists id at gathered → IsStepUp lists at step → IsGathered lists id step.parent (gathered ++ step.choice ∷ [])
 gather_step lists id at gathered step so_far up =
     let below = so_far.below in
     let before = up.before in

@@ -17,7 +17,7 @@ pub use Rattle.board.proofs.DotLemmas.{dot_sound, dot_least}
 -- how much is left to do
 pub use Rattle.board.proofs.WorkLaws.{work_stays, work_falls}
 -- the facts of a board
-pub use Rattle.board.proofs.Keeping.{facts_opened, facts_enlisted, facts_claimed}
+pub use Rattle.board.proofs.KeptFacts.{facts_opened, facts_enlisted, facts_claimed}
 pub use Rattle.board.proofs.SettledFacts.{facts_settled}
 pub use Rattle.board.proofs.FewChoices.{few_choices, few_choices_of}
 pub use Rattle.board.proofs.BestLaws.{none_open_is_best, worth_not_negative}

@@ -9,9 +9,9 @@ pub mod SplitLaws
 pub mod PairLaws
 pub mod ParentLaws
 pub mod FewChoices
-pub mod Covering
-pub mod Children
-pub mod Keeping
+pub mod CoveredDrawings
+pub mod ChildChoices
+pub mod KeptFacts
 pub mod SettledFacts
 pub mod BestLaws
 pub mod TableLemmas

@@ -26,10 +26,10 @@ use Rattle.board.specs.Facts.{AreFacts, AreSound, IsCovered, IsDrawnKey, IsKeptA
 use Rattle.board.specs.Histories.{State, after, branch_count, choices_of, choices_opened, standing_of, standings_opened, IsHeldBy, NumbersChildren}
 use Rattle.board.specs.Verdicts.{IsPairAt, IsPairFor, IsSoundVerdict}
 use Rattle.board.proofs.AfterLemmas.{choices_before, choices_behind, held_open, open_below, settled_count, standing_behind, standing_other, standing_same}
-use Rattle.board.proofs.Children.{children_sound}
-use Rattle.board.proofs.Covering.{IsHandled, covered_settled, in_child, none_above, none_before, none_where_cyclic}
+use Rattle.board.proofs.ChildChoices.{children_sound}
+use Rattle.board.proofs.CoveredDrawings.{IsHandled, covered_settled, in_child, none_above, none_before, none_where_cyclic}
 use Rattle.board.proofs.HistoryLaws.{legal_with, same_count, state_with}
-use Rattle.board.proofs.Keeping.{callers_with, kept_still, none_opened, opened_wait, places_alike}
+use Rattle.board.proofs.KeptFacts.{callers_with, kept_still, none_opened, opened_wait, places_alike}
 
 module _ {P : Type 0} (objective : Objective) (Backs : Shape → List Choice → P → Verdict P → Type 0) where
   -- what has to be shown of an outcome, so that the facts are kept

@@ -18,9 +18,9 @@ use Rattle.board.specs.Boards.{BoardView, board_state, verdict_of}
 use Rattle.board.specs.Facts.{AreFacts, AreSound, HasBranchPair, IsKeptAt, IsSettledBy}
 use Rattle.board.specs.Histories.{State, opened, after, replayed, state_of, branch_count, choices_of, standing_of, children_of, standings_opened, Fits, AllFit, IsLegal, HasChildren}
 use Rattle.board.proofs.AfterLemmas.{claimed_count, claimed_other, claimed_same, choices_before, choices_behind, held_open, open_below, settled_count, standing_behind, standing_other, standing_same, waiting_open}
-use Rattle.board.proofs.Covering.{child_is}
+use Rattle.board.proofs.CoveredDrawings.{child_is}
 use Rattle.board.proofs.HistoryLaws.{after_same}
-use Rattle.board.proofs.Keeping.{opened_wait}
+use Rattle.board.proofs.KeptFacts.{opened_wait}
 
 -- each branch that was split has its children
 abbrev HaveChildren : State → Type 0

@@ -18,8 +18,8 @@ use Rattle.board.specs.declared.standings.Standing.TheVariants.{Waiting, Held, D
 use Rattle.board.specs.Boards.{BoardView, IsCaller, IsOutcome, after_claim, board_state, enlisted, incumbent_after, opened_board, verdict_of, verdicts_opened}
 use Rattle.board.specs.Facts.{AreVerdictsKept, IsDrawnKey, IsKeptAt}
 use Rattle.board.specs.Histories.{State, IsHeldBy, IsSettled, IsWaiting, after, branch_count, opened, standing_of, standings_opened}
-use Rattle.board.specs.inner.Tables.{IsKept, IsSettling, owed, owed_by}
-use Rattle.board.proofs.Keeping.{facts_opened, facts_enlisted, facts_claimed}
+use Rattle.board.specs.inner.Tables.{AreBoardTables, IsSettling, owed, owed_by}
+use Rattle.board.proofs.KeptFacts.{facts_opened, facts_enlisted, facts_claimed}
 use Rattle.board.proofs.SettledFacts.{facts_settled}
 use Rattle.board.proofs.HistoryLaws.{state_with}
 use Rattle.board.proofs.StackLemmas.{waits_below}
@@ -33,7 +33,7 @@ owed_set standings id was now stands other =
 
 pub kept_opened : {P : Type 0} (objective : Objective) (Backs : Shape → List Choice → P → Verdict P → Type 0)
     (shape : Shape) (key : Key) (room : ℕ) → IsSound shape → IsDrawnKey objective shape key → 2 ≤ room →
-    IsKept objective Backs (opened_board shape key) opened room
+    AreBoardTables objective Backs (opened_board shape key) opened room
 kept_opened objective Backs shape key room sound drawn enough = record {
   state = refl;
   room_left = enough;
@@ -41,8 +41,8 @@ kept_opened objective Backs shape key room sound drawn enough = record {
 }
 
 pub kept_roomier : {P : Type 0} (objective : Objective) (Backs : Shape → List Choice → P → Verdict P → Type 0)
-    (board : BoardView P) (branches : State) (room more : ℕ) → IsKept objective Backs board branches room → room ≤ more →
-    IsKept objective Backs board branches more
+    (board : BoardView P) (branches : State) (room more : ℕ) → AreBoardTables objective Backs board branches room → room ≤ more →
+    AreBoardTables objective Backs board branches more
 kept_roomier objective Backs board branches room more kept less = record {
   state = kept.state;
   room_left = let enough = kept.room_left in omega arith;
@@ -50,8 +50,8 @@ kept_roomier objective Backs board branches room more kept less = record {
 }
 
 pub kept_enlisted : {P : Type 0} (objective : Objective) (Backs : Shape → List Choice → P → Verdict P → Type 0)
-    (board : BoardView P) (branches : State) (room : ℕ) → IsKept objective Backs board branches room →
-    IsKept objective Backs (enlisted board) branches room
+    (board : BoardView P) (branches : State) (room : ℕ) → AreBoardTables objective Backs board branches room →
+    AreBoardTables objective Backs (enlisted board) branches room
 kept_enlisted objective Backs board branches room kept = record {
   state = kept.state;
   room_left = kept.room_left;
@@ -59,7 +59,7 @@ kept_enlisted objective Backs board branches room kept = record {
 }
 
 pub room_for_claim : {P : Type 0} (objective : Objective) (Backs : Shape → List Choice → P → Verdict P → Type 0)
-    (board : BoardView P) (branches : State) (room id : ℕ) → IsKept objective Backs board branches room →
+    (board : BoardView P) (branches : State) (room id : ℕ) → AreBoardTables objective Backs board branches room →
     IsWaiting branches id → 0 < room
 room_for_claim objective Backs board branches room id kept waits =
     let pays = owed_set branches.standings id Waiting (Held 0) waits (λ e. cc) in
@@ -67,9 +67,9 @@ room_for_claim objective Backs board branches room id kept waits =
     omega (arith, pays, enough)
 
 pub kept_claimed : {P : Type 0} (objective : Objective) (Backs : Shape → List Choice → P → Verdict P → Type 0)
-    (board : BoardView P) (branches : State) (room who id : ℕ) → IsKept objective Backs board branches room →
+    (board : BoardView P) (branches : State) (room who id : ℕ) → AreBoardTables objective Backs board branches room →
     IsCaller board.given who → IsWaiting (board_state board) id →
-    IsKept objective Backs (after_claim board who id) (after branches (entries.Claimed who id)) (room - 1)
+    AreBoardTables objective Backs (after_claim board who id) (after branches (entries.Claimed who id)) (room - 1)
 kept_claimed objective Backs board branches room who id kept caller waits = record {
   state = ap (λ s. after s (entries.Claimed who id)) kept.state ∙ sym (state_with board.entries (entries.Claimed who id));
   room_left =
@@ -81,7 +81,7 @@ kept_claimed objective Backs board branches room who id kept caller waits = reco
 }
 
 pub room_for_settle : {P : Type 0} (objective : Objective) (Backs : Shape → List Choice → P → Verdict P → Type 0)
-    (board : BoardView P) (branches : State) (room who id : ℕ) → IsKept objective Backs board branches room →
+    (board : BoardView P) (branches : State) (room who id : ℕ) → AreBoardTables objective Backs board branches room →
     IsHeldBy branches id who → 0 < room
 room_for_settle objective Backs board branches room who id kept held =
     let pays = owed_set branches.standings id (Held who) (Done outcomes.Closed) held (λ e. cc) in
@@ -91,11 +91,11 @@ room_for_settle objective Backs board branches room who id kept held =
 pub kept_settled : {P : Type 0} (objective : Objective) (Backs : Shape → List Choice → P → Verdict P → Type 0)
     (board : BoardView P) (branches : State) (room who id : ℕ) (verdict : Verdict P) (what : Settled)
     (incumbent : Key) (verdicts : List (Option (Verdict P))) →
-    IsKept objective Backs board branches room → IsSettling objective Backs board who id verdict what →
+    AreBoardTables objective Backs board branches room → IsSettling objective Backs board who id verdict what →
     owed_by branches.standings + owed_by (standings_opened what) ≤ room →
     incumbent ≡ incumbent_after board.incumbent verdict what →
     verdicts ≡ set board.verdicts id (Some verdict) ++ verdicts_opened what →
-    IsKept objective Backs (record {
+    AreBoardTables objective Backs (record {
       shape = board.shape;
       entries = board.entries ++ entries.Settled who id what ∷ [];
       given = board.given;

@@ -46,7 +46,7 @@ impl<P: Backing> Model for Board<P> {
     ghost Value = { BoardView P };
 
     ghost use Rattle.std.specs.Prelude.{◌-◌, vec_capacity, vec_len};
-    ghost use Rattle.board.specs.inner.Tables.{IsKept};
+    ghost use Rattle.board.specs.inner.Tables.{AreBoardTables};
 
     ghost view = { λ board. record {
       shape = board.shape;
@@ -56,7 +56,7 @@ impl<P: Backing> Model for Board<P> {
       verdicts = board.verdicts.items;
     } };
 
-    ghost invariant = { λ board. IsKept P.objective P.backs
+    ghost invariant = { λ board. AreBoardTables P.objective P.backs
         (record {
           shape = board.shape;
           entries = board.entries.items;

@@ -3,7 +3,7 @@
 ghost use Rattle.std.specs.Prelude.{◌≡◌, ◌↔◌, ◌-◌, ◌/◌, ◌%◌, ◌<◌, [], ◌∷◌, ◌++◌, length};
 ghost use Rattle.std.specs.Prelude.{IfOk, IsTrue, MatchOption, OnErr, OnOk};
 ghost use Rattle.board.specs.Histories.{children_of};
-ghost use Rattle.board.specs.inner.Chains.{IsStep, chain_at};
+ghost use Rattle.board.specs.inner.Chains.{IsStepUp, chain_at};
 
 use compact_types::{Choice, Items, NoMemory};
 use std::alloc::Global;
@@ -20,7 +20,7 @@ pub(crate) struct Fork {
 
 /// The last choice of a branch, and the branch whose choices stand before it.
 #[derive(Clone, Copy, Debug, PartialEq, Eq)]
-pub(crate) struct Step {
+pub(crate) struct StepUp {
     pub parent: u64,
     pub choice: Choice,
 }
@@ -102,10 +102,10 @@ impl Chains {
     }
 
     /// One step up from a branch to its parent; `None` exactly for branch 0, which has no choices.
-    pub(crate) fn step_up(&self, id: u64) -> Option<Step>
+    pub(crate) fn step_up(&self, id: u64) -> Option<StepUp>
         requires { id < length self.now }
         ensures { MatchOption result ((id ≡ 0) × (chain_at self.now id ≡ []))
-            (IsStep self.now id) }
+            (IsStepUp self.now id) }
     {
         if id == 0 {
             let _forks = &self.forks;
@@ -117,7 +117,7 @@ impl Chains {
             t: fork.t,
             side: side_of(id),
         };
-        Some(Step {
+        Some(StepUp {
             parent: fork.parent,
             choice,
         })

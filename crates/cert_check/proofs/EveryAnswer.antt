@@ -36,11 +36,11 @@ use Rattle.cert_check.specs.declared.fault.CheckFault.{CheckFault}
 use Rattle.cert_check.specs.declared.fault.CheckFault.TheVariants.{NotFromZero, BadPair, NotACycle}
 use Rattle.cert_check.specs.Faults.{AreBothOnArcs, FirstCheckFault, IsBoundFault, IsEarlierAt, IsEntryFault, IsFirstBreak, IsFirstIn, IsFirstOffArcs, IsUnbalancedAt}
 use Rattle.cert_check.specs.Faults.IsBoundFault.{no_x_arc, no_y_arc, x_unbalanced, y_unbalanced, too_low, too_late}
-use Rattle.cert_check.specs.inner.Branches.{HasRoom}
+use Rattle.cert_check.specs.inner.Branches.{HasRoomToSplit}
 use Rattle.cert_check.specs.inner.Comparing.{AreSameBelow}
 use Rattle.shape_graphs.proofs.Laws.{fit_more}
 use Rattle.cert_check.proofs.CompareLemmas.{first_is_greater, less_from_first, not_before_itself, same_is_not_less}
-use Rattle.cert_check.proofs.Deciding.{IsFirst, all_or_first, balanced_or_not, compare_points, cycle_or_break, flow_is, from_zero_decided, on_or_off, pair_decided}
+use Rattle.cert_check.proofs.DecidableConditions.{IsFirst, all_or_first, balanced_or_not, compare_points, cycle_or_break, flow_is, from_zero_decided, on_or_off, pair_decided}
 use Rattle.cert_check.proofs.DecisionLemmas.{no_fault, only_fault}
 use Rattle.cert_check.proofs.FaultLemmas.{one_least}
 use Rattle.cert_check.proofs.WalkLemmas.{IsOnTheWay, after_good, at_end, at_fault, at_start, has_room, some_entry}
@@ -185,7 +185,7 @@ AllFit shape [] = Unit {0}
 AllFit shape (choices ∷ branches) = Fit shape choices × AllFit shape branches
 
 -- and so do those of the branches that a good entry opens
-opened_fit : (shape : Shape) (places : Places) (node : CertNode) (choices : List Choice) (branches : List (List Choice)) → HasRoom node choices →
+opened_fit : (shape : Shape) (places : Places) (node : CertNode) (choices : List Choice) (branches : List (List Choice)) → HasRoomToSplit node choices →
     IsGoodEntry shape choices places node → Fit shape choices → AllFit shape branches → AllFit shape (opened_by node choices ++ branches)
 opened_fit shape places (Split s t) choices branches room pair fit rest = (
   with_side 0 (omega arith),

@@ -6,6 +6,6 @@ pub mod CompareLemmas
 pub mod ZeroLemmas
 pub mod CycleLemmas
 pub mod BoundLemmas
-pub mod Deciding
+pub mod DecidableConditions
 pub mod EveryAnswer
 pub mod Laws

@@ -14,7 +14,7 @@ use Rattle.cert_text.specs.Trees.{AreShallow, IsShallow, IsWhole, depths_opened,
 use Rattle.cert_text.proofs.Laws.{opened_count}
 use Rattle.cert_check.specs.declared.fault.CheckFault.{CheckFault}
 use Rattle.cert_check.specs.Faults.{IsEntryFault, IsFirstIn}
-use Rattle.cert_check.specs.inner.Branches.{HasRoom, IsNext}
+use Rattle.cert_check.specs.inner.Branches.{HasRoomToSplit, IsNext}
 use Rattle.shape_graphs.specs.declared.growing.GrowingGraphs.{GrowingGraphs}
 
 -- how many choices each branch has
@@ -87,7 +87,7 @@ some_entry shape places nodes entry choices branches before =
 
 -- the branches of a split have room
 pub has_room : (shape : Shape) (places : Places) (nodes : List CertNode) (entry : ℕ) (choices : List Choice) (branches : List (List Choice))
-    (node : CertNode) (rest : List CertNode) → IsOnTheWay shape places nodes entry (choices ∷ branches) (node ∷ rest) → HasRoom node choices
+    (node : CertNode) (rest : List CertNode) → IsOnTheWay shape places nodes entry (choices ∷ branches) (node ∷ rest) → HasRoomToSplit node choices
 has_room shape places nodes entry choices branches (Split s t) [] before =
     let left : Some (4 + length branches) ≡ Some 0 = before.whole in
     let none : 4 + length branches ≡ 0 = cc in
@@ -130,7 +130,7 @@ fault_here shape places nodes entry choices branches node inside at before fault
 
 pub room_here : (shape : Shape) (places : Places) (nodes : List CertNode) (entry : ℕ) (choices : List Choice) (branches : List (List Choice))
     (node : CertNode) → entry < length nodes → node ≡ slice_index_or nodes entry node →
-    IsAtEntry shape places nodes entry (choices ∷ branches) → HasRoom node choices
+    IsAtEntry shape places nodes entry (choices ∷ branches) → HasRoomToSplit node choices
 room_here shape places nodes entry choices branches node inside at before =
     let first = entry_first shape places nodes entry (choices ∷ branches) node inside before in
     let here = subst (λ (n : CertNode). IsOnTheWay shape places nodes entry (choices ∷ branches) (n ∷ drop (suc entry) nodes)) (sym at) first in

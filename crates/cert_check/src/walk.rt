@@ -12,7 +12,7 @@ ghost use Rattle.cert_text.specs.Loads.{IsInRange};
 ghost use Rattle.cert_text.specs.Trees.{IsShallow, IsWhole};
 ghost use Rattle.cert_check.specs.declared.fault.CheckFault.TheVariants as faults;
 ghost use Rattle.cert_check.specs.Faults.{IsEntryFault, IsFirstBreak, IsFirstIn};
-ghost use Rattle.cert_check.specs.inner.Branches.{HasRoom, IsAnswer, IsAt, IsNext, arcs_on};
+ghost use Rattle.cert_check.specs.inner.Branches.{HasRoomToSplit, IsAnswer, IsAt, IsNext, arcs_on};
 ghost use Rattle.cert_check.specs.inner.Branches.{later};
 
 use crate::answer::Answer;
@@ -68,7 +68,7 @@ fn step(
     requires answer { IsAnswer bars.now answer.now.places.now answer.now.length }
     requires at { IsAt bars.now branch.old }
     requires in_range { IsInRange node.now }
-    requires room { HasRoom node.now branch.old.choices }
+    requires room { HasRoomToSplit node.now branch.old.choices }
     ensures good { IfOk result (λ _.
         IsGoodEntry bars.now branch.old.choices answer.now.places.now node.now) }
     ensures fault { IfFault result

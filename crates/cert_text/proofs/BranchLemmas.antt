@@ -19,7 +19,7 @@ use Rattle.board.specs.Verdicts.{IsSoundVerdict}
 use Rattle.board.proofs.Laws.{all_settled, none_open_is_best}
 use Rattle.cert_text.specs.declared.tree.CertNode.{CertNode}
 use Rattle.cert_text.specs.Trims.{AreEntriesOf, IsSplitStill}
-use Rattle.cert_text.specs.inner.Outlines.{ComesFirst, HasFewAmounts, HasFirstKey, HasPointsOf, IsBegun, IsFurther, closing_of}
+use Rattle.cert_text.specs.inner.Outlines.{BeginsCertificate, ComesFirst, HasFewAmounts, HasFirstKey, HasPointsOf, IsFurther, closing_of}
 use Rattle.cert_text.proofs.ClosingLemmas.{closing_opens, closing_right, verdict_few, verdict_points}
 use Rattle.cert_text.proofs.OutlineLemmas.{below, closed_further, few}
 
@@ -55,7 +55,7 @@ still_split board id first s t done (Above bound stop proof) is before pair = ab
 still_split board id first s t done (Least key proof) is before pair =
     record { split = done; key = key; proof = proof; kept = is; before = before; pair = pair }
 
-module _ (board : BoardView Flows) (nodes : List CertNode) (waiting : List ℕ) (id : ℕ) (begun : IsBegun board nodes (waiting ++ id ∷ [])) where
+module _ (board : BoardView Flows) (nodes : List CertNode) (waiting : List ℕ) (id : ℕ) (begun : BeginsCertificate board nodes (waiting ++ id ∷ [])) where
   inside : id < branch_count (board_state board)
   inside = below board nodes waiting id begun
 
@@ -107,7 +107,7 @@ module _ (board : BoardView Flows) (nodes : List CertNode) (waiting : List ℕ) 
       still_split board id first s t done by.verdict by.kept (before by.verdict by.kept) by.splits
 
 -- a branch whose key is not before the incumbent is closed
-pub closed_at : (board : BoardView Flows) (nodes nodes' : List CertNode) (waiting : List ℕ) (id : ℕ) → IsBegun board nodes (waiting ++ id ∷ []) →
+pub closed_at : (board : BoardView Flows) (nodes nodes' : List CertNode) (waiting : List ℕ) (id : ℕ) → BeginsCertificate board nodes (waiting ++ id ∷ []) →
     (best : Key) → best ≡ board.incumbent → (verdict : Verdict Flows) → verdict_of board id ≡ Some verdict →
     (says : Bool) → (IsTrue says ↔ ComesFirst best verdict) → says ≡ false →
     (node : CertNode) → node ≡ closing_of verdict → nodes' ≡ nodes ++ node ∷ [] → IsFurther board nodes' waiting (waiting ++ id ∷ [])

@@ -1,4 +1,4 @@
-pub mod Printed
+pub mod PrintedLists
 pub mod TreeLaws
 pub mod EntryLemmas
 pub mod AcceptedBest

@@ -22,7 +22,7 @@ use Rattle.cert_text.specs.declared.tree.CertNode.TheVariants.{Split}
 use Rattle.cert_text.specs.declared.trimming.TheConstants.{MOST_SPLITS}
 use Rattle.cert_text.specs.Accepting.{opened_by}
 use Rattle.cert_text.specs.Trims.{AreEntriesOf, IsSplitStill}
-use Rattle.cert_text.specs.inner.Outlines.{AreRight, IsBegun, IsFurther, IsRightEntry, ids_to_come, to_come, work_of}
+use Rattle.cert_text.specs.inner.Outlines.{AreRight, BeginsCertificate, IsFurther, IsRightEntry, ids_to_come, to_come, work_waiting}
 
 -- the last branches of a stack are to come before the others
 to_come-append : (state : State) (front ids : List ℕ) (later : List (List Choice)) →
@@ -34,13 +34,13 @@ ids_to_come-append : (front ids later : List ℕ) → ids_to_come (front ++ ids)
 ids_to_come-append [] ids later = refl
 ids_to_come-append (id ∷ front) ids later = ids_to_come-append front ids (id ∷ later)
 
-work-append : (count : ℕ) (front ids : List ℕ) → work_of count (front ++ ids) ≡ work_of count front + work_of count ids
+work-append : (count : ℕ) (front ids : List ℕ) → work_waiting count (front ++ ids) ≡ work_waiting count front + work_waiting count ids
 work-append count [] ids = omega arith
 work-append count (id ∷ front) ids = let rest = work-append count front ids in omega (arith, rest)
 
 -- four branches with greater numbers are less to do
 four_less : (count id a b c d : ℕ) → id < count → id < a → id < b → id < c → id < d →
-    work_of count (a ∷ b ∷ c ∷ d ∷ []) < 5 ^ (count - id)
+    work_waiting count (a ∷ b ∷ c ∷ d ∷ []) < 5 ^ (count - id)
 four_less count id a b c d below to_a to_b to_c to_d =
     let next : count - id ≡ suc (count - suc id) = omega (arith, below) in
     let power : 5 ^ (count - id) ≡ 5 * 5 ^ (count - suc id) = ap (λ (n : ℕ). 5 ^ n) next ∙ pow-succ' 5 (count - suc id) in
@@ -74,7 +74,7 @@ last_inside count front id all = (
     length_front : length (front ++ id ∷ []) ≡ length front + 1
     length_front = length-append front (id ∷ [])
 
-module _ (board : BoardView Flows) (nodes : List CertNode) (waiting : List ℕ) (id : ℕ) (begun : IsBegun board nodes (waiting ++ id ∷ [])) where
+module _ (board : BoardView Flows) (nodes : List CertNode) (waiting : List ℕ) (id : ℕ) (begun : BeginsCertificate board nodes (waiting ++ id ∷ [])) where
   abbrev state : State
   state = board_state board
 
@@ -191,7 +191,7 @@ module _ (board : BoardView Flows) (nodes : List CertNode) (waiting : List ℕ) 
         }
 
 -- the same of lists that are equal to these
-pub further_at : (board : BoardView Flows) (nodes nodes' : List CertNode) (waiting waiting' : List ℕ) (id : ℕ) → IsBegun board nodes (waiting ++ id ∷ []) →
+pub further_at : (board : BoardView Flows) (nodes nodes' : List CertNode) (waiting waiting' : List ℕ) (id : ℕ) → BeginsCertificate board nodes (waiting ++ id ∷ []) →
     (first s t : ℕ) → IsSplitStill board id first s t → nodes' ≡ nodes ++ Split s t ∷ [] →
     waiting' ≡ waiting ++ (first + 3) ∷ (first + 2) ∷ (first + 1) ∷ first ∷ [] → IsFurther board nodes' waiting' (waiting ++ id ∷ [])
 further_at board nodes nodes' waiting waiting' id begun first s t still is_nodes is_waiting =
@@ -200,7 +200,7 @@ further_at board nodes nodes' waiting waiting' id begun first s t still is_nodes
     (split_further board nodes waiting id begun first s t still.split still))
 
 -- the certificate begins with branch 0, which has no choices
-begun_first : (board : BoardView Flows) → AreFacts total_length DoBack board → open_count_of (board_state board) ≡ 0 → IsBegun board [] (0 ∷ [])
+begun_first : (board : BoardView Flows) → AreFacts total_length DoBack board → open_count_of (board_state board) ≡ 0 → BeginsCertificate board [] (0 ∷ [])
 begun_first board facts none = record {
   facts = facts;
   none_open = none;
@@ -212,7 +212,7 @@ begun_first board facts none = record {
 
 -- the same of lists that are equal to these
 pub begun_at : (board : BoardView Flows) → AreFacts total_length DoBack board → open_count_of (board_state board) ≡ 0 → (nodes : List CertNode) →
-    nodes ≡ [] → (waiting : List ℕ) → waiting ≡ 0 ∷ [] → IsBegun board nodes waiting
+    nodes ≡ [] → (waiting : List ℕ) → waiting ≡ 0 ∷ [] → BeginsCertificate board nodes waiting
 begun_at board facts none nodes is_nodes waiting is_waiting =
-    subst (λ (l : List CertNode). IsBegun board l waiting) (sym is_nodes)
-    (subst (λ (l : List ℕ). IsBegun board [] l) (sym is_waiting) (begun_first board facts none))
+    subst (λ (l : List CertNode). BeginsCertificate board l waiting) (sym is_nodes)
+    (subst (λ (l : List ℕ). BeginsCertificate board [] l) (sym is_waiting) (begun_first board facts none))

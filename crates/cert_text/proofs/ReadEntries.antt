@@ -12,9 +12,9 @@ use Rattle.cert_text.specs.declared.tree.TheConstants.{MOST_NUMBER}
 use Rattle.cert_text.specs.Faults.{IsEntry}
 use Rattle.cert_text.specs.Loads.{IsSmall}
 use Rattle.cert_text.specs.Texts.{arcs_text, axis_text, entry_line, loads_text}
-use Rattle.cert_text.specs.inner.Reading.{after_byte, after_word, arcs_of, at_end, bound_of}
+use Rattle.cert_text.specs.inner.Reading.{after_byte, after_word, arcs_read, at_end, bound_read}
 use Rattle.cert_text.specs.inner.Reading.{by_word, cycle_from, cycle_of, entry_of, loads_of}
-use Rattle.cert_text.specs.inner.Reading.{number_of, split_of}
+use Rattle.cert_text.specs.inner.Reading.{number_read, split_of}
 use Rattle.cert_text.proofs.ReadLoads.{arcs_are, arcs_are_read, loads_are, loads_are_read}
 use Rattle.cert_text.proofs.ReadLoads.{no_load_at_end, no_load_at_y, number_limit}
 use Rattle.cert_text.proofs.ReadNumbers.{number_is, number_is_read}
@@ -54,9 +54,9 @@ split_is : (text : List ℕ) (node : CertNode) → split_of text ≡ Some node �
     IsEntryOf (codes "#! split " ++ text) node
 unfolding split_of
 split_is text node h =
-    let s = bind_some (number_of MOST_NUMBER text) _ node h in
+    let s = bind_some (number_read MOST_NUMBER text) _ node h in
     let space = bind_some (after_byte 32 (s.0.1)) _ node (s.2) in
-    let t = bind_some (number_of MOST_NUMBER (space.0)) _ node (space.2) in
+    let t = bind_some (number_read MOST_NUMBER (space.0)) _ node (space.2) in
     let end = at_end_is (Split (s.0.0) (t.0.0)) (t.0.1) node (t.2) in
     let s_is = number_is MOST_NUMBER text (s.0.0) (s.0.1) number_limit (s.1) in
     let t_is = number_is MOST_NUMBER (space.0) (t.0.0) (t.0.1) number_limit (t.1) in
@@ -74,8 +74,8 @@ split_is_read : (s t : ℕ) → IsEntry (Split s t) →
     split_of (decimal s ++ 32 ∷ decimal t) ≡ Some (Split s t)
 unfolding split_of
 split_is_read s t is =
-    let last : number_of MOST_NUMBER (decimal t) ≡ Some (t, []) =
-    ap (number_of MOST_NUMBER) (sym (append-nil (decimal t)))
+    let last : number_read MOST_NUMBER (decimal t) ≡ Some (t, []) =
+    ap (number_read MOST_NUMBER) (sym (append-nil (decimal t)))
     ∙ number_is_read MOST_NUMBER t [] number_limit (is.in_range.1) refl in
     rw (number_is_read MOST_NUMBER s (32 ∷ decimal t) number_limit (is.in_range.0) refl, last) refl
 
@@ -84,9 +84,9 @@ bound_front : (x y : List Load) → codes "#! bound x" ++ loads_text x ++ codes 
 bound_front x y = ap (λ end. codes "#! bound x" ++ end)
     (append_assoc (loads_text x) (32 ∷ 121 ∷ []) (loads_text y))
 
-bound_is : (text : List ℕ) (node : CertNode) → bound_of text ≡ Some node →
+bound_is : (text : List ℕ) (node : CertNode) → bound_read text ≡ Some node →
     IsEntryOf (codes "#! bound x" ++ text) node
-unfolding bound_of
+unfolding bound_read
 bound_is text node h =
     let x = loads_are text in
     let y_word = bind_some (after_word (codes " y") (loads_of text).1) _ node h in
@@ -108,8 +108,8 @@ bound_is text node h =
     })
 
 bound_is_read : (x y : List Load) → IsEntry (Bound x y) →
-    bound_of (loads_text x ++ 32 ∷ 121 ∷ loads_text y) ≡ Some (Bound x y)
-unfolding bound_of
+    bound_read (loads_text x ++ 32 ∷ 121 ∷ loads_text y) ≡ Some (Bound x y)
+unfolding bound_read
 bound_is_read x y is =
     let first : loads_of (loads_text x ++ 32 ∷ 121 ∷ loads_text y) ≡ (x, 32 ∷ 121 ∷ loads_text y) =
     loads_are_read x (32 ∷ 121 ∷ loads_text y) (is.in_range.0) refl
@@ -137,7 +137,7 @@ cycle_is : (axis : Axis) (text : List ℕ) (node : CertNode) → cycle_of axis t
     IsEntryOf (codes "#! cycle " ++ axis_text axis ++ text) node
 unfolding cycle_of
 cycle_is axis text node h =
-    let arcs = arcs_are text in cycle_from_is axis (arcs_of text) text node (arcs.cut)
+    let arcs = arcs_are text in cycle_from_is axis (arcs_read text) text node (arcs.cut)
     (arcs.small) h
 
 cycle_is_read : (axis : Axis) (arcs : List ℕ) → IsEntry (Cycle axis arcs) →
@@ -174,7 +174,7 @@ entry_is line node h =
     (λ h. absurd (let e : None ≡ Some node = h in cc))
     (by_word_cases (after_word (codes "#! cycle y") line) (cycle_of Y) None node h))
     (by_word_cases (after_word (codes "#! cycle x") line) (cycle_of X) _ node h))
-    (by_word_cases (after_word (codes "#! bound x") line) bound_of _ node h))
+    (by_word_cases (after_word (codes "#! bound x") line) bound_read _ node h))
     (by_word_cases (after_word (codes "#! split ") line) split_of _ node h)
 
 pub entry_is_read : (node : CertNode) → IsEntry node → entry_of (entry_body node) ≡ Some node

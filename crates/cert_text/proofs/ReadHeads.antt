@@ -10,7 +10,7 @@ use Rattle.std.proofs.lemmas.List.{append_assoc, drop_all, drop_at, length-take-
 use Rattle.compact_types.specs.declared.limits.TheConstants.{MOST_PITCH}
 use Rattle.cert_text.specs.Certificates.{HasNoHead, IsCutAtHead, IsCutAtLastHead, IsPitch}
 use Rattle.cert_text.specs.Texts.{head_line, head_start}
-use Rattle.cert_text.specs.inner.Reading.{after_byte, after_word, head_of, number_of}
+use Rattle.cert_text.specs.inner.Reading.{after_byte, after_word, head_of, number_read}
 use Rattle.cert_text.proofs.ReadNumbers.{IsLimit, number_is, number_is_read}
 use Rattle.cert_text.proofs.ReadWords.{after_byte_is, after_word_is, bind_some, cond_some}
 use Rattle.cert_text.proofs.ReadWords.{word_is_read}
@@ -117,7 +117,7 @@ pub head_is : (text : List ℕ) (pitch : ℕ) (rest : List ℕ) → head_of text
 unfolding head_of
 head_is text pitch rest h =
     let words = bind_some (after_word head_words text) _ (pitch, rest) h in
-    let number = bind_some (number_of MOST_PITCH (words.0)) _ (pitch, rest) (words.2) in
+    let number = bind_some (number_read MOST_PITCH (words.0)) _ (pitch, rest) (words.2) in
     let feed = bind_some (after_byte 10 (number.0.1)) _ (pitch, rest) (number.2) in
     let test = cond_some (nat_le 1 (number.0.0)) (number.0.0, feed.0) (pitch, rest) (feed.2) in
     let is = number_is MOST_PITCH (words.0) (number.0.0) (number.0.1) pitch_limit (number.1) in

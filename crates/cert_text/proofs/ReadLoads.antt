@@ -13,9 +13,9 @@ use Rattle.cert_text.specs.declared.tree.Load.{Load}
 use Rattle.cert_text.specs.declared.tree.TheConstants.{MOST_NUMBER}
 use Rattle.cert_text.specs.Loads.{AreLoads, IsLoad, IsSmall, load_at}
 use Rattle.cert_text.specs.Texts.{arcs_text, load_text, loads_text}
-use Rattle.cert_text.specs.inner.Reading.{after_byte, arc_after, arc_of, arcs_of, load_of, loads_of}
-use Rattle.cert_text.specs.inner.Reading.{no_bound, number_of}
-use Rattle.cert_text.proofs.Printed.{arc_text, arcs_text_parts, loads_text_parts}
+use Rattle.cert_text.specs.inner.Reading.{after_byte, arc_after, arc_of, arcs_read, load_read, loads_of}
+use Rattle.cert_text.specs.inner.Reading.{no_bound, number_read}
+use Rattle.cert_text.proofs.PrintedLists.{arc_text, arcs_text_parts, loads_text_parts}
 use Rattle.cert_text.proofs.ReadItems.{DoFit, IsReader, items_are_read, items_found}
 use Rattle.cert_text.proofs.ReadNumbers.{IsLimit, begins_digit, number_is, number_is_read}
 use Rattle.cert_text.proofs.ReadWords.{after_byte_is, bind_some, cond_some}
@@ -36,13 +36,13 @@ abbrev FitsLoad : ℕ → Load → Type 0
 FitsLoad least load = (least ≤ load.arc) × IsLoad load
 
 load_is : (least : ℕ) (text : List ℕ) (load : Load) (rest : List ℕ) →
-    load_of least text ≡ Some (load, rest) → (text ≡ load_text load ++ rest) × FitsLoad least load
-unfolding load_of
+    load_read least text ≡ Some (load, rest) → (text ≡ load_text load ++ rest) × FitsLoad least load
+unfolding load_read
 load_is least text load rest h =
     let space = bind_some (after_byte 32 text) _ (load, rest) h in
-    let arc = bind_some (number_of MOST_NUMBER (space.0)) _ (load, rest) (space.2) in
+    let arc = bind_some (number_read MOST_NUMBER (space.0)) _ (load, rest) (space.2) in
     let colon = bind_some (after_byte 58 (arc.0.1)) _ (load, rest) (arc.2) in
-    let amount = bind_some (number_of MOST_AMOUNT (colon.0)) _ (load, rest) (colon.2) in
+    let amount = bind_some (number_read MOST_AMOUNT (colon.0)) _ (load, rest) (colon.2) in
     let tests = cond_some (nat_le least (arc.0.0) && nat_le 1 (amount.0.0))
     (record { arc = arc.0.0; amount = amount.0.0 }, amount.0.1) (load, rest) (amount.2) in
     let both = and_parts (nat_le least (arc.0.0)) (nat_le 1 (amount.0.0)) (tests.0) in
@@ -72,12 +72,12 @@ load_is least text load rest h =
     )
 
 load_is_read : (least : ℕ) (load : Load) (rest : List ℕ) → FitsLoad least load →
-    begins_digit rest ≡ false → load_of least (load_text load ++ rest) ≡ Some (load, rest)
-unfolding load_of
+    begins_digit rest ≡ false → load_read least (load_text load ++ rest) ≡ Some (load, rest)
+unfolding load_read
 load_is_read least load rest fits end =
     let low : nat_le least load.arc ≡ true = grind (arith, nat_tests, fits.0) in
     let some : nat_le 1 load.amount ≡ true = grind (arith, nat_tests, fits.1.some) in
-    ap (load_of least) (load_front load rest) ∙ rw (
+    ap (load_read least) (load_front load rest) ∙ rw (
       number_is_read MOST_NUMBER load.arc (58 ∷ (decimal load.amount ++ rest)) number_limit
           (fits.1.arc) refl,
       number_is_read MOST_AMOUNT load.amount rest amount_limit (fits.1.most) end,
@@ -85,7 +85,7 @@ load_is_read least load rest fits end =
       some,
     ) refl
 
-load_reader : IsReader load_of load_text FitsLoad
+load_reader : IsReader load_read load_text FitsLoad
 load_reader = record {
   is = load_is;
   is_read = load_is_read;
@@ -138,7 +138,7 @@ pub record HasLoads (text : List ℕ) (loads : List Load) (rest : List ℕ) : Ty
 pub loads_are : (text : List ℕ) → HasLoads text (loads_of text).0 (loads_of text).1
 unfolding loads_of
 loads_are text =
-    let found = items_found load_of load_text FitsLoad arc_after load_reader (length text) 0 text in
+    let found = items_found load_read load_text FitsLoad arc_after load_reader (length text) 0 text in
     record {
       cut = found.cut ∙ ap (λ front. front ++ (loads_of text).1)
           (sym (loads_text_parts (loads_of text).0));
@@ -147,18 +147,18 @@ loads_are text =
 
 pub loads_are_read : (loads : List Load) (rest : List ℕ) → AreLoads loads →
     begins_digit rest ≡ false →
-    ((least : ℕ) → load_of least rest ≡ None) → loads_of (loads_text loads ++ rest) ≡ (loads, rest)
+    ((least : ℕ) → load_read least rest ≡ None) → loads_of (loads_text loads ++ rest) ≡ (loads, rest)
 unfolding loads_of
 loads_are_read loads rest are end stop = rw (loads_text_parts loads)
-    (items_are_read load_of load_text FitsLoad arc_after load_reader loads rest
+    (items_are_read load_read load_text FitsLoad arc_after load_reader loads rest
     (loads_fit 0 loads are (λ h. omega arith)) end stop)
 
-pub no_load_at_end : (least : ℕ) → load_of least [] ≡ None
-unfolding load_of
+pub no_load_at_end : (least : ℕ) → load_read least [] ≡ None
+unfolding load_read
 no_load_at_end least = refl
 
-pub no_load_at_y : (least : ℕ) (text : List ℕ) → load_of least (32 ∷ 121 ∷ text) ≡ None
-unfolding load_of number_of
+pub no_load_at_y : (least : ℕ) (text : List ℕ) → load_read least (32 ∷ 121 ∷ text) ≡ None
+unfolding load_read number_read
 no_load_at_y least text = refl
 
 abbrev FitsArc : ℕ → ℕ → Type 0
@@ -199,21 +199,21 @@ pub record HasArcs (text arcs rest : List ℕ) : Type 0 where
   pub cut : text ≡ arcs_text arcs ++ rest
   pub small : All IsSmall arcs
 
-pub arcs_are : (text : List ℕ) → HasArcs text (arcs_of text).0 (arcs_of text).1
-unfolding arcs_of
+pub arcs_are : (text : List ℕ) → HasArcs text (arcs_read text).0 (arcs_read text).1
+unfolding arcs_read
 arcs_are text =
     let found = items_found arc_of arc_text FitsArc no_bound arc_reader (length text) 0 text in
     record {
-      cut = found.cut ∙ ap (λ front. front ++ (arcs_of text).1) (sym (arcs_text_parts (arcs_of text).0));
-      small = fitting_arcs (arcs_of text).0 (found.fit);
+      cut = found.cut ∙ ap (λ front. front ++ (arcs_read text).1) (sym (arcs_text_parts (arcs_read text).0));
+      small = fitting_arcs (arcs_read text).0 (found.fit);
     }
 
 no_arc_at_end : (least : ℕ) → arc_of least [] ≡ None
 unfolding arc_of
 no_arc_at_end least = refl
 
-pub arcs_are_read : (arcs : List ℕ) → All IsSmall arcs → arcs_of (arcs_text arcs) ≡ (arcs, [])
-unfolding arcs_of
+pub arcs_are_read : (arcs : List ℕ) → All IsSmall arcs → arcs_read (arcs_text arcs) ≡ (arcs, [])
+unfolding arcs_read
 arcs_are_read arcs small = rw (arcs_text_parts arcs, ← append-nil (flat_map arc_text arcs))
     (items_are_read arc_of arc_text FitsArc no_bound arc_reader arcs []
     (arcs_fit arcs small) refl no_arc_at_end)

@@ -6,7 +6,7 @@ use Rattle.std.proofs.lemmas.Bool.Decides.{Decides-eqb, nat_tests}
 use Rattle.std.proofs.lemmas.Fmt.{decimal_step, decimal_digit, decimal_by_steps}
 use Rattle.std.proofs.lemmas.List.{append_assoc}
 use Rattle.gml_text.specs.Bytes.{is_digit}
-use Rattle.cert_text.specs.inner.Reading.{digits_from, number_of}
+use Rattle.cert_text.specs.inner.Reading.{digits_from, number_read}
 use Rattle.cert_text.proofs.ReadWords.{cond_cases, same_found}
 
 abbrev pub begins_digit : List ℕ → Bool
@@ -70,8 +70,8 @@ digits_are most before (b ∷ text) number rest limit some within h =
     (Some (number, rest)) h)
 
 pub number_is : (most : ℕ) (text : List ℕ) (number : ℕ) (rest : List ℕ) → IsLimit most →
-    number_of most text ≡ Some (number, rest) → IsNumberAt text number rest most
-unfolding number_of
+    number_read most text ≡ Some (number, rest) → IsNumberAt text number rest most
+unfolding number_read
 number_is most [] number rest limit h = absurd (let e : None ≡ Some (number, rest) = h in cc)
 number_is most (b ∷ text) number rest limit h =
     ⊎_elim
@@ -118,10 +118,10 @@ digits_end most before (b ∷ rest) h = rw h refl
 -- the digits of a number that is not 0 are read
 abbrev AreDigitsRead : ℕ → List ℕ → Type 0
 AreDigitsRead number digits = (most : ℕ) (tail : List ℕ) → number ≤ most → 1 ≤ number →
-    number_of most (digits ++ tail) ≡ digits_from most number tail
+    number_read most (digits ++ tail) ≡ digits_from most number tail
 
 one_digit_read : (n : ℕ) → n < 10 → AreDigitsRead n ((48 + n) ∷ [])
-unfolding number_of
+unfolding number_read
 one_digit_read n h = λ most tail within some.
     let other : eqb (48 + n) 48 ≡ false = grind (arith, nat_tests) in
     let digit : is_digit (48 + n) ≡ true = grind (arith, nat_tests) in
@@ -133,20 +133,20 @@ more_digits_read : (n : ℕ) (digits : List ℕ) → 10 ≤ n → AreDigitsRead 
 more_digits_read n digits h front = λ most tail within some.
     let digit : is_digit (48 + n % 10) ≡ true = grind (arith, nat_tests) in
     let value : n / 10 * 10 + (48 + n % 10 - 48) ≡ n = omega arith in
-    ap (number_of most) (append_assoc digits ((48 + n % 10) ∷ []) tail)
+    ap (number_read most) (append_assoc digits ((48 + n % 10) ∷ []) tail)
     ∙ front most ((48 + n % 10) ∷ tail) (omega arith) (omega arith)
     ∙ digits_step most (n / 10) (48 + n % 10) tail digit (omega arith)
     ∙ ap (λ m. digits_from most m tail) value
 
-zero_is_read : (most : ℕ) (rest : List ℕ) → number_of most (48 ∷ rest) ≡ Some (0, rest)
-unfolding number_of
+zero_is_read : (most : ℕ) (rest : List ℕ) → number_read most (48 ∷ rest) ≡ Some (0, rest)
+unfolding number_read
 zero_is_read most rest = refl
 
 pub number_is_read : (most number : ℕ) (rest : List ℕ) → IsLimit most → number ≤ most →
     begins_digit rest ≡ false →
-    number_of most (decimal number ++ rest) ≡ Some (number, rest)
+    number_read most (decimal number ++ rest) ≡ Some (number, rest)
 number_is_read most zero rest limit within end =
-    ap (λ front. number_of most (front ++ rest)) (decimal_digit 0 (omega arith))
+    ap (λ front. number_read most (front ++ rest)) (decimal_digit 0 (omega arith))
     ∙ zero_is_read most rest
 number_is_read most (suc n) rest limit within end =
     decimal_by_steps AreDigitsRead one_digit_read more_digits_read (suc n)

@@ -15,7 +15,7 @@ use Rattle.cert_text.specs.Accepting.{Accepts, AreGood, IsGoodEntry, opened_by}
 use Rattle.cert_text.specs.Loads.{HasArc, IsCertTree, IsInRange}
 use Rattle.cert_text.specs.Trees.{AreShallow, IsShallow, branches_of, depths_opened, left_after}
 use Rattle.cert_text.specs.Trims.{AreEntriesOf}
-use Rattle.cert_text.specs.inner.Outlines.{AreRight, IsBegun}
+use Rattle.cert_text.specs.inner.Outlines.{AreRight, BeginsCertificate}
 
 -- the branches have so many choices
 abbrev HaveDepths : List (List Choice) → List ℕ → Type 0
@@ -83,20 +83,20 @@ module _ (shape : Shape) (places : Places) where
       All-cons HasArc node nodes (good_arc shape choices places node right.0.good) (have_arcs (opened_by node choices ++ branches) nodes right.1)
 
 -- where no branch is to come, the certificate is finished
-finished : (board : BoardView Flows) (nodes : List CertNode) (waiting : List ℕ) → length waiting ≡ 0 → IsBegun board nodes waiting →
+finished : (board : BoardView Flows) (nodes : List CertNode) (waiting : List ℕ) → length waiting ≡ 0 → BeginsCertificate board nodes waiting →
     AreRight board.shape board.incumbent.places ([] ∷ []) nodes
 finished board nodes [] none begun =
     subst (λ (l : List CertNode). AreRight board.shape board.incumbent.places ([] ∷ []) l) (append-nil nodes) (begun.goes_on [] tt)
 finished board nodes (id ∷ waiting) none begun = absurd (omega (arith, none))
 
 -- and it has the entries of all branches
-pub made_entries : (board : BoardView Flows) (nodes : List CertNode) (waiting : List ℕ) → length waiting ≡ 0 → IsBegun board nodes waiting →
+pub made_entries : (board : BoardView Flows) (nodes : List CertNode) (waiting : List ℕ) → length waiting ≡ 0 → BeginsCertificate board nodes waiting →
     AreEntriesOf board (0 ∷ []) nodes
 made_entries board nodes [] none begun =
     subst (λ (l : List CertNode). AreEntriesOf board (0 ∷ []) l) (append-nil nodes) (begun.entries_go_on [] tt)
 made_entries board nodes (id ∷ waiting) none begun = absurd (omega (arith, none))
 
-module _ (board : BoardView Flows) (nodes : List CertNode) (waiting : List ℕ) (none : length waiting ≡ 0) (begun : IsBegun board nodes waiting) where
+module _ (board : BoardView Flows) (nodes : List CertNode) (waiting : List ℕ) (none : length waiting ≡ 0) (begun : BeginsCertificate board nodes waiting) where
   all_right : AreRight board.shape board.incumbent.places ([] ∷ []) nodes
   all_right = finished board nodes waiting none begun
 

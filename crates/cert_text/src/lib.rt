@@ -6,8 +6,7 @@
 #![tactic(auto)]
 
 mod fault;
-mod law;
-mod law_of_texts;
+mod laws;
 mod printing;
 mod reading;
 #[cfg(test)]
@@ -16,9 +15,9 @@ mod tree;
 mod trimming;
 
 pub use fault::{CertFault, CertKind};
-pub use law::{accepted_is_best, made_is_best, shallower, whole_trees_are_shallow};
-pub use law_of_texts::{
-    certificates_are_comments, printed_certificates_are_read, texts_have_one_answer,
+pub use laws::{
+    accepted_is_best, certificates_are_comments, made_is_best, printed_certificates_are_read,
+    shallower, texts_have_one_answer, whole_trees_are_shallow,
 };
 pub use printing::{append_cert, print_cert};
 pub use reading::read_cert;

@@ -44,7 +44,7 @@ fn write_head(text: &mut Items<u8>, pitch: u32) -> Result<(), NoMemory>
 }
 
 /// Adds the lines of the entries to `text`.
-#[tactic(auto, using(crate::proofs::Printed::entry_lines_parts))]
+#[tactic(auto, using(crate::proofs::PrintedLists::entry_lines_parts))]
 fn write_entries(text: &mut Items<u8>, nodes: &[CertNode]) -> Result<(), NoMemory>
     ensures { OnOk result (text.new ≡ text.old ++ entry_lines nodes.now) }
 {
@@ -90,7 +90,7 @@ fn write_bound(text: &mut Items<u8>, x: &[Load], y: &[Load]) -> Result<(), NoMem
 }
 
 /// Adds the loads of one graph to `text`.
-#[tactic(auto, using(crate::proofs::Printed::loads_text_parts))]
+#[tactic(auto, using(crate::proofs::PrintedLists::loads_text_parts))]
 fn write_loads(text: &mut Items<u8>, loads: &[Load]) -> Result<(), NoMemory>
     ensures { OnOk result (text.new ≡ text.old ++ loads_text loads.now) }
 {
@@ -132,7 +132,7 @@ fn write_axis(text: &mut Items<u8>, axis: Axis) -> Result<(), NoMemory>
 }
 
 /// Adds the arcs of a cycle to `text`.
-#[tactic(auto, using(crate::proofs::Printed::arcs_text_parts))]
+#[tactic(auto, using(crate::proofs::PrintedLists::arcs_text_parts))]
 fn write_arcs(text: &mut Items<u8>, arcs: &[u32]) -> Result<(), NoMemory>
     ensures { OnOk result (text.new ≡ text.old ++ arcs_text arcs.now) }
 {

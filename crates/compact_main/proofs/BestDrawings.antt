@@ -34,10 +34,10 @@ use Rattle.drawing_read.specs.declared.reading.Reading.{Reading}
 use Rattle.drawing_read.specs.Readings.{IsReading}
 use Rattle.drawing_check.specs.Shapes.{IsShapeOf}
 use Rattle.gml_print.specs.Places.{CanPut}
-use Rattle.compact_main.proofs.Among.{IsLeastOfSome, NoneBefore, HasBest, best_of_fewer, best_of_both}
-use Rattle.compact_main.proofs.Decisions.{IsDecided}
+use Rattle.compact_main.proofs.BestOfSome.{IsLeastOfSome, NoneBefore, HasBest, best_of_fewer, best_of_both}
+use Rattle.compact_main.proofs.DecidableFacts.{IsDecided}
 use Rattle.compact_main.proofs.PairChoice.{pair_or_not}
-use Rattle.compact_main.proofs.Sound.{few_segments_sound, sound_shape}
+use Rattle.compact_main.proofs.ReadShapes.{few_segments_sound, sound_shape}
 
 abbrev last_choice : ℕ → ℕ → ℕ → Choice
 last_choice s t side = record { s = s; t = t; side = side }

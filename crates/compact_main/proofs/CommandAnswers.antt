@@ -14,7 +14,7 @@ use Rattle.compact_main.specs.declared.status.Why.{Why}
 use Rattle.compact_main.specs.declared.status.Why.TheVariants.{TooLong, Gml, Draw, Shape}
 use Rattle.compact_main.specs.Drawings.{HoldsDrawing, FirstTextFault}
 use Rattle.compact_main.specs.Intakes.{limit_of}
-use Rattle.compact_main.specs.Outputs.{IsInput, HoldsInput, IsProved, Output, IsValid, FirstInputFault, FirstRefusal, FirstUnproved, FirstGap, FirstFault}
+use Rattle.compact_main.specs.Outputs.{IsInput, HoldsInput, IsProved, Output, IsValid, FirstInputFault, FirstRefusal, FirstUnproved, FirstGap, FirstFailure}
 use Rattle.compact_main.specs.inner.Readings.{ReadsDrawing}
 use Rattle.compact_main.proofs.ProvedAnswers.{one_cause, no_cause, proved_or_not}
 use Rattle.compact_main.proofs.TextAnswers.{text_answer}
@@ -106,7 +106,7 @@ reads_drawing commands.Verify text why first = tt
 reads_drawing (commands.Sample number) text why none = none
 
 pub input_fault : (command : Command) (text : List ℕ) (why : Why) → ReadsDrawing command → length text ≤ limit_of command → FirstTextFault text why →
-    FirstFault command text (Refused why)
+    FirstFailure command text (Refused why)
 input_fault command text why reads within fault = refusal command text why reads (first_input_fault command text why within fault)
 
 -- what a command accepts holds a drawing, if it reads one
@@ -154,20 +154,20 @@ refused_or_not_proved commands.Verify text why cause first (drawing, input, gap)
 refused_or_not_proved (commands.Sample number) text why cause first none = none
 
 -- a command accepts a text, or has no answer for it for one first cause
-one_failure : (command : Command) (text : List ℕ) (a b : Failure) → FirstFault command text a → FirstFault command text b → a ≡ b
+one_failure : (command : Command) (text : List ℕ) (a b : Failure) → FirstFailure command text a → FirstFailure command text b → a ≡ b
 one_failure command text (Refused a) (Refused b) first second = ap (λ (why : Why). Refused why) (one_refusal command text a b first second)
 one_failure command text (Refused a) (NotProved b) first second = absurd (refused_or_not_proved command text a b first second)
 one_failure command text (NotProved a) (Refused b) first second = absurd (refused_or_not_proved command text b a second first)
 one_failure command text (NotProved a) (NotProved b) first second = ap (λ (cause : Unproved). NotProved cause) (one_gap command text a b first second)
 
-no_failure : (command : Command) (text : List ℕ) (failure : Failure) → IsValid command text → FirstFault command text failure → ⊥
+no_failure : (command : Command) (text : List ℕ) (failure : Failure) → IsValid command text → FirstFailure command text failure → ⊥
 no_failure command text (Refused why) valid first = no_refusal command text why valid first
 no_failure command text (NotProved cause) valid first = no_gap command text cause valid first
 
 -- a text within a limit holds a drawing, or is refused, so that a command accepts or refuses it
 module _ (command : Command) (text : List ℕ) where
   abbrev HasAnswer : Type 0
-  HasAnswer = (Unit {0} × IsValid command text) ⊎ ((failure : Failure) × FirstFault command text failure)
+  HasAnswer = (Unit {0} × IsValid command text) ⊎ ((failure : Failure) × FirstFailure command text failure)
 
   accepted_or_refused : ReadsDrawing command → (HoldsInput command text → IsValid command text) → HasAnswer
   accepted_or_refused reads accepts = by (input_answer command text).some
@@ -196,7 +196,7 @@ some_answer_of commands.Verify text = verified_or_not text
 some_answer_of (commands.Sample number) text = inl (tt, tt)
 
 pub command_answer : (command : Command) (text : List ℕ) →
-    HasOneAnswer (λ (accepted : Unit {0}). IsValid command text) (FirstFault command text)
+    HasOneAnswer (λ (accepted : Unit {0}). IsValid command text) (FirstFailure command text)
 command_answer command text = record {
   some = some_answer_of command text;
   one_value = λ a b first second. refl;

@@ -11,7 +11,7 @@ use Rattle.compact_main.specs.declared.command.Command.{Command}
 use Rattle.compact_main.specs.declared.command.Command.TheVariants as commands
 use Rattle.compact_main.specs.declared.command.Form.TheVariants.{Plain, Certified}
 use Rattle.compact_main.specs.declared.drawing.Drawing.{Drawing}
-use Rattle.compact_main.specs.Commands.{IsWithinLimits}
+use Rattle.compact_main.specs.Commands.{IsCommandWithinLimits}
 use Rattle.compact_main.specs.Intakes.{limit_of}
 use Rattle.compact_main.specs.Drawings.{shape_of, worth_with, text_with, IsSummary}
 use Rattle.compact_main.specs.Outputs.{DrawsBest, IsCertified, IsProved, count_line, proved_line, Output, IsUncertified, IsValid}
@@ -22,7 +22,7 @@ use Rattle.compact_main.proofs.DrawnIsProved.{best_is_proved}
 use Rattle.compact_main.proofs.OneSummary.{one_summary, some_summary}
 use Rattle.compact_main.proofs.ProvedAnswers.{one_proved}
 use Rattle.compact_main.proofs.SampleLaws.{one_sample_shape}
-use Rattle.compact_main.proofs.Sound.{sound_shape}
+use Rattle.compact_main.proofs.ReadShapes.{sound_shape}
 use Rattle.compact_main.proofs.TextAnswers.{text_answer}
 
 -- an accepted text has an output
@@ -90,7 +90,7 @@ one_sampled number text a b first second =
     text_of shape places = sample_text number shape.plan (worth_of total_length shape places) (greatest_along X places) (greatest_along Y places)
 
 -- what is drawn with a certificate is proved
-pub drawn_verified : (pitch : ℕ) (text written : List ℕ) → IsWithinLimits (commands.Draw pitch Certified) → Output (commands.Draw pitch Certified) text written →
+pub drawn_verified : (pitch : ℕ) (text written : List ℕ) → IsCommandWithinLimits (commands.Draw pitch Certified) → Output (commands.Draw pitch Certified) text written →
     length written ≤ limit_of commands.Verify → IsValid commands.Verify written
 drawn_verified pitch text written (some, most) (drawing, input, (places, nodes, is)) within =
     let whole = is.certified.behind ∙ ap (λ front. front ++ certificate_text pitch nodes) is.draws.printed in

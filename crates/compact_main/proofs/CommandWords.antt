@@ -12,9 +12,9 @@ use Rattle.compact_main.specs.declared.command.Command.TheVariants as commands
 use Rattle.compact_main.specs.declared.command.Form.{Form}
 use Rattle.compact_main.specs.declared.options.Options.{Options}
 use Rattle.compact_main.specs.declared.words.Request.{Request}
-use Rattle.compact_main.specs.Commands.{texts_of, IsNumberTo, AreOptions, form_of, workers_of, AskForDrawing, Asks, AskForWorkers, IsTeam, IsWithinLimits}
+use Rattle.compact_main.specs.Commands.{texts_of, IsNumberTo, AreOptions, form_of, workers_of, AskForDrawing, Asks, AskForWorkers, IsTeam, IsCommandWithinLimits}
 use Rattle.compact_main.specs.Commands.AreOptions.{no_words, plain_first, pitch_first, workers_first}
-use Rattle.compact_main.specs.inner.Askings.{AreFound, IsRequest}
+use Rattle.compact_main.specs.inner.WordOptions.{AreFound, IsRequest}
 use Rattle.compact_main.proofs.OptionWords.{one_number, one_options}
 
 -- commands by their first word
@@ -120,7 +120,7 @@ pub team_found : (words : List (List ℕ)) (result : Option Request) → IsReque
 team_found words None none = tt
 team_found words (Some request) asked = team_asked words request.command request.workers asked.1
 
-pub number_asked : (words : List (List ℕ)) (command : Command) → Asks words command → IsWithinLimits command
+pub number_asked : (words : List (List ℕ)) (command : Command) → Asks words command → IsCommandWithinLimits command
 number_asked words (commands.Draw pitch form) (options, is, (found, are, of, same)) =
     subst (λ (n : ℕ). (1 ≤ n) × (n ≤ MOST_PITCH)) (sym of) (within are)
 number_asked words commands.Check is = tt

@@ -18,7 +18,7 @@ use Rattle.gml_text.proofs.Laws.{spelled_within}
 use Rattle.drawing_read.specs.declared.reading.Reading.{Reading}
 use Rattle.drawing_read.specs.Readings.{IsReading}
 use Rattle.drawing_read.proofs.Laws.{reading_alike}
-use Rattle.gml_print.specs.Laws.{ReadsBack}
+use Rattle.gml_print.specs.TextReadings.{ReadsBack}
 use Rattle.gml_print.specs.Places.{CanPut, placed, in_thousandths, moved_reading}
 use Rattle.gml_print.specs.Printing.{printed}
 use Rattle.gml_print.proofs.Laws.{reads_back, placed_within, placed_reading}
@@ -28,7 +28,7 @@ use Rattle.cert_text.specs.Loads.{IsCertTree}
 use Rattle.cert_text.specs.Texts.{certificate_text}
 use Rattle.cert_text.proofs.Laws.{printed_certificate, spelled_with_certificate}
 use Rattle.compact_main.specs.declared.drawing.Drawing.{Drawing}
-use Rattle.compact_main.specs.Drawings.{HoldsDrawing, shape_of, step_of, AreBestPlaces, IsAccepted, IsOnGridAt, text_with}
+use Rattle.compact_main.specs.Drawings.{HoldsDrawing, shape_of, grid_step, AreBestPlaces, IsAccepted, IsOnGridAt, text_with}
 use Rattle.compact_main.proofs.BestDrawings.{can_put}
 use Rattle.compact_main.proofs.ProvedAnswers.{some_step}
 use Rattle.compact_main.proofs.PrintedLines.{printed_before_line}
@@ -43,12 +43,12 @@ place_in_thousandths pitch [] v inside = absurd (omega (arith, inside))
 place_in_thousandths pitch (point ∷ points) zero inside = refl
 place_in_thousandths pitch (point ∷ points) (suc v) inside = place_in_thousandths pitch points v (omega (arith, inside))
 
-along_in_thousandths : (pitch : ℕ) (axis : Axis) (point : Point) → along axis (in_thousandths pitch point) ≡ step_of pitch *ℤ along axis point
+along_in_thousandths : (pitch : ℕ) (axis : Axis) (point : Point) → along axis (in_thousandths pitch point) ≡ grid_step pitch *ℤ along axis point
 along_in_thousandths pitch X point = refl
 along_in_thousandths pitch Y point = refl
 
 -- the places of the reading that is written are those in grid steps, scaled up
-pub in_grid_steps : (reading : Reading) (places : Places) (pitch : ℕ) → IsScaled (step_of pitch) (moved_reading reading places pitch).places places
+pub in_grid_steps : (reading : Reading) (places : Places) (pitch : ℕ) → IsScaled (grid_step pitch) (moved_reading reading places pitch).places places
 in_grid_steps reading places pitch =
     let many = as_many pitch places.xy in
     record {
@@ -101,7 +101,7 @@ drawn_is_proved text drawing places pitch nodes written holds can tree accepted 
       holds = record {
         spelled = spelled_with_certificate (printed new) back.read pitch nodes before pitched tree back.spelled;
         read = read;
-        checked = shape_of_scaled (step_of pitch) drawing.reading.plan (shape_of drawing) drawing.reading.places moved.places places (some_step pitch some) scaled
+        checked = shape_of_scaled (grid_step pitch) drawing.reading.plan (shape_of drawing) drawing.reading.places moved.places places (some_step pitch some) scaled
             holds.checked accepted.drawing.crossing_free;
       };
       same_shape = refl;

@@ -8,7 +8,7 @@ use Rattle.compact_main.specs.declared.drawing.Drawing.{Drawing}
 use Rattle.compact_main.specs.declared.summary.Summary.{Summary}
 use Rattle.compact_main.specs.Drawings.{shape_of, vertex_count, piece_count, IsSummary}
 use Rattle.compact_main.specs.Summaries.{IsSeparatedPair}
-use Rattle.compact_main.proofs.Counts.{one_pair_count, some_pair_count}
+use Rattle.compact_main.proofs.CountsBelow.{one_pair_count, some_pair_count}
 use Rattle.compact_main.proofs.PairChoice.{pair_or_not, separated_pair_or_not}
 
 pub one_summary : (drawing : Drawing) (a b : Summary) → IsSummary drawing a → IsSummary drawing b → a ≡ b

@@ -13,7 +13,7 @@ use Rattle.workers.specs.declared.several.TheConstants.{MOST_WORKERS}
 use Rattle.compact_main.specs.declared.options.Options.{Options}
 use Rattle.compact_main.specs.Commands.{texts_of, IsNumberTo, no_options, AreOptions}
 use Rattle.compact_main.specs.Commands.AreOptions.{no_words, plain_first, pitch_first, workers_first}
-use Rattle.compact_main.specs.inner.Askings.{AreFound}
+use Rattle.compact_main.specs.inner.WordOptions.{AreFound}
 
 -- how many words they are
 flag_words : Bool → ℕ

@@ -7,10 +7,10 @@ use Rattle.bars.specs.Lines.{line_of}
 use Rattle.bars.specs.Segments.{segment_at, segment_count, ShareVertex, IsPair}
 use Rattle.bars.specs.Sides.{side_axis}
 use Rattle.shape_graphs.specs.Graphs.{side_arc, arcs_of}
-use Rattle.shape_graphs.specs.Separation.{IsKept, IsSeparated}
+use Rattle.shape_graphs.specs.Separation.{HasSidePath, IsSeparated}
 use Rattle.shape_graphs.proofs.Laws.{path_decided}
 use Rattle.compact_main.specs.Summaries.{IsSeparatedPair}
-use Rattle.compact_main.proofs.Decisions.{IsDecided, both}
+use Rattle.compact_main.proofs.DecidableFacts.{IsDecided, both}
 
 -- some number below n has P, or none has
 some_below : (P : ℕ → Type 0) → ((i : ℕ) → IsDecided (P i)) → (n : ℕ) → IsDecided ((i : ℕ) × (i < n) × P i)
@@ -59,7 +59,7 @@ module _ (shape : Shape) where
   -- choices keep them apart, or not
   pub separated_or_not : (choices : List Choice) (s t : ℕ) → IsDecided (IsSeparated shape choices s t)
   separated_or_not choices s t =
-      some_below (λ side. IsKept shape choices s t side)
+      some_below (λ side. HasSidePath shape choices s t side)
       (λ side. path_decided (arcs_of (side_axis side) shape choices) (side_arc shape s t side).from (side_arc shape s t side).to) 4
 
   pub separated_pair_or_not : (s t : ℕ) → IsDecided (IsSeparatedPair shape s t)

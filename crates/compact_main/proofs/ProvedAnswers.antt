@@ -24,13 +24,13 @@ use Rattle.compact_main.specs.declared.command.Command.TheVariants.{Verify}
 use Rattle.compact_main.specs.declared.drawing.Drawing.{Drawing}
 use Rattle.compact_main.specs.declared.status.Unproved.{Unproved}
 use Rattle.compact_main.specs.declared.status.Unproved.TheVariants as unproved
-use Rattle.compact_main.specs.Drawings.{shape_of, step_of, AreBestPlaces, IsAccepted, IsFirstFlaw, IsOnGridAt, IsFirstOffGrid}
+use Rattle.compact_main.specs.Drawings.{shape_of, grid_step, AreBestPlaces, IsAccepted, IsFirstFlaw, IsOnGridAt, IsFirstOffGrid}
 use Rattle.compact_main.specs.Outputs.{IsInput, IsProved, FirstUnproved}
-use Rattle.compact_main.specs.inner.Proofs.{CanCheck, CanMeasure}
-use Rattle.compact_main.proofs.Sound.{is_drawing, sound_shape, within_limits}
+use Rattle.compact_main.specs.inner.CertificateChecks.{CanCheckCertificate, CanMeasure}
+use Rattle.compact_main.proofs.ReadShapes.{is_drawing, sound_shape, within_limits}
 
 -- a step of the grid has some thousandths
-pub some_step : (pitch : ℕ) → 1 ≤ pitch → pos 1 ≤ℤ step_of pitch
+pub some_step : (pitch : ℕ) → 1 ≤ pitch → pos 1 ≤ℤ grid_step pitch
 some_step pitch some = omega (arith, ints, some)
 
 -- a certificate is no deeper than it is long
@@ -42,13 +42,13 @@ shallow nodes tree few =
 module _ (text : List ℕ) (drawing : Drawing) (input : IsInput Verify text drawing) where
   near : (pitch : ℕ) (places : Places) → IsPitch pitch → IsOnGridAt drawing pitch places → AreWithin GREATEST_THOUSANDTHS places
   near pitch places pitched scaled =
-      within-scaled (step_of pitch) GREATEST_THOUSANDTHS drawing.reading.places places (some_step pitch pitched.some) scaled
+      within-scaled (grid_step pitch) GREATEST_THOUSANDTHS drawing.reading.places places (some_step pitch pitched.some) scaled
       (within_limits drawing.tree drawing.reading input.holds.read).within_reach
 
   pub can_check : (pitch : ℕ) (nodes : List CertNode) (places : Places) → IsPitch pitch → IsCertTree nodes → length nodes ≤ MOST_BYTES →
-      IsOnGridAt drawing pitch places → CanCheck (shape_of drawing) places nodes
+      IsOnGridAt drawing pitch places → CanCheckCertificate (shape_of drawing) places nodes
   can_check pitch nodes places pitched tree few scaled = record {
-    drawing = drawing-scaled (step_of pitch) (shape_of drawing) drawing.reading.places places (some_step pitch pitched.some) scaled
+    drawing = drawing-scaled (grid_step pitch) (shape_of drawing) drawing.reading.places places (some_step pitch pitched.some) scaled
         (is_drawing drawing.reading.plan drawing.reading.places (shape_of drawing) input.holds.checked);
     near = near pitch places pitched scaled;
     whole = tree.whole;
@@ -106,7 +106,7 @@ module _ (text : List ℕ) (drawing : Drawing) where
   no_text_fault found fault is first = (one_certificate text).not_both found fault is first
 
   same_places : (found : Found) (p q : Places) → IsFound text found → IsOn found p → IsOn found q → p ≡ q
-  same_places found p q is on on_too = one_scaled (step_of found.0) drawing.reading.places p q (some_step found.0 is.pitched.some) on on_too
+  same_places found p q is on on_too = one_scaled (grid_step found.0) drawing.reading.places p q (some_step found.0 is.pitched.some) on on_too
 
   one_wrong : (found : Found) (f g : CheckFault) → IsFound text found → IsWrong found f → IsWrong found g → f ≡ g
   one_wrong found f g is (p, on, first) (q, on_too, second) =
@@ -114,7 +114,7 @@ module _ (text : List ℕ) (drawing : Drawing) where
       (subst (λ (places : Places). IsFirstFlaw drawing places found.1.nodes f) (same_places found p q is on on_too) first) second
 
   not_off_and_on : (found : Found) (places : Places) (vertex : ℕ) → IsOn found places → IsOff found vertex → ⊥
-  not_off_and_on found places vertex on off = scaled_not_off (step_of found.0) drawing.reading.places places vertex on off
+  not_off_and_on found places vertex on off = scaled_not_off (grid_step found.0) drawing.reading.places places vertex on off
 
   -- one cause at most
   pub one_cause : (a b : Unproved) → FirstUnproved text drawing a → FirstUnproved text drawing b → a ≡ b
@@ -125,7 +125,7 @@ module _ (text : List ℕ) (drawing : Drawing) where
   one_cause (unproved.NotWhole v) (unproved.NotWhole w) (p, n, is, off) (q, m, is_too, off_too) =
       let same = same_found (found_of p n) (found_of q m) is is_too in
       ap (λ (vertex : ℕ). unproved.NotWhole vertex)
-      (one_first_off (step_of q) drawing.reading.places v w (subst (λ (found : Found). IsOff found v) same off) off_too)
+      (one_first_off (grid_step q) drawing.reading.places v w (subst (λ (found : Found). IsOff found v) same off) off_too)
   one_cause (unproved.NotWhole v) (unproved.Check g) (p, n, is, off) (q, m, is_too, places, on, wrong) =
       let same = same_found (found_of p n) (found_of q m) is is_too in
       absurd (not_off_and_on (found_of q m) places v on (subst (λ (found : Found). IsOff found v) same off))
@@ -183,7 +183,7 @@ module _ (text : List ℕ) (drawing : Drawing) (input : IsInput Verify text draw
 
   by_text : ((found : Found) × IsFound text found) ⊎ ((fault : CertFault) × FirstCertFault text fault) → HasCause
   by_text (inl (found, is)) =
-      by_grid found is (some_scaled_or_off (step_of found.0) (some_step found.0 is.pitched.some) drawing.reading.places)
+      by_grid found is (some_scaled_or_off (grid_step found.0) (some_step found.0 is.pitched.some) drawing.reading.places)
   by_text (inr (fault, first)) = inr (unproved.Cert fault, first)
 
   pub proved_or_not : HasCause

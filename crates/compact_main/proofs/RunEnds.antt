@@ -13,7 +13,7 @@ use Rattle.compact_main.specs.declared.status.Status.{Status}
 use Rattle.compact_main.specs.declared.status.Status.TheVariants.{Done, Refused, ReadFault, WriteFault, NoMemory}
 use Rattle.compact_main.specs.Commands.{Asks, IsThe}
 use Rattle.compact_main.specs.Intakes.{intake_of, limit_of, Takes, IsReadOut, IsGiven}
-use Rattle.compact_main.specs.Outputs.{Output, IsValid, FirstFault}
+use Rattle.compact_main.specs.Outputs.{Output, IsValid, FirstFailure}
 use Rattle.compact_main.specs.Runs.{Answers, IsFailed, Completes, IsRun}
 use Rattle.compact_main.specs.Statuses.{status_of}
 use Rattle.compact_main.specs.inner.Readings.{IsGivenUp}
@@ -64,7 +64,7 @@ module _ {S K : Type 0} (command : Command)
     (left : S → Option (List ℕ)) (read_faults : S → ℕ) (source source' : S) (held : K → Option (List ℕ)) (write_faults : K → ℕ) (out : K)
     (text : List ℕ) (read : Takes (intake_of command) left source source' text) (end : IsReadOut (intake_of command) left source')
     (same : read_faults source' ≡ read_faults source) where
-  failed_for : (found failure : Failure) → found ≡ failure → FirstFault command text found → IsFailed (IsThe command) failure left source source'
+  failed_for : (found failure : Failure) → found ≡ failure → FirstFailure command text found → IsFailed (IsThe command) failure left source source'
   failed_for found failure is fault =
       subst (λ (f : Failure). IsFailed (IsThe command) f left source source') is
       (record {
@@ -77,12 +77,12 @@ module _ {S K : Type 0} (command : Command)
       })
 
   -- no other answer is right
-  failed_alone : (found : Failure) → FirstFault command text found → (c : Command) (whole : List ℕ) → c ≡ command →
+  failed_alone : (found : Failure) → FirstFailure command text found → (c : Command) (whole : List ℕ) → c ≡ command →
       IsGiven (intake_of c) left read_faults source source' whole → Completes c whole (status_of found)
   failed_alone found fault c whole asked given =
       let told = subst (λ (k : Command). IsGiven (intake_of k) left read_faults source source' whole) asked given in
       let is_all = whole_text left read_faults source source' (intake_of command) text whole told read end in
-      let first : FirstFault command whole found = subst (λ (t : List ℕ). FirstFault command t found) is_all fault in
+      let first : FirstFailure command whole found = subst (λ (t : List ℕ). FirstFailure command t found) is_all fault in
       let one = command_answer command whole in
       subst (λ (k : Command). Completes k whole (status_of found)) (sym asked) (record {
         done = λ valid. absurd (one.not_both tt found valid first);
@@ -90,7 +90,7 @@ module _ {S K : Type 0} (command : Command)
         not_proved = λ unproved other. inl (ap status_of (one.one_fault found (failures.NotProved unproved) first other));
       })
 
-  pub failed_run : (found : Failure) → FirstFault command text found →
+  pub failed_run : (found : Failure) → FirstFailure command text found →
       IsRun (IsThe command) left read_faults source source' held write_faults out out (status_of found)
   failed_run (failures.Refused why) fault = record {
     bad_words = (λ is. absurd cc, λ none. absurd (none command refl));
@@ -129,7 +129,7 @@ module _ {S K : Type 0} (command : Command)
 module _ {S K : Type 0} (command : Command)
     (left : S → Option (List ℕ)) (read_faults : S → ℕ) (source source' : S) (held : K → Option (List ℕ)) (write_faults : K → ℕ) (out : K) where
   long_for : (why : Why) (given : List ℕ) → Refused TooLong ≡ Refused why → Takes (intake_of command) left source source' given →
-      FirstFault command given (failures.Refused TooLong) → IsFailed (IsThe command) (failures.Refused why) left source source'
+      FirstFailure command given (failures.Refused TooLong) → IsFailed (IsThe command) (failures.Refused why) left source source'
   long_for why given is read more =
       let same : TooLong ≡ why = cc in
       subst (λ (w : Why). IsFailed (IsThe command) (failures.Refused w) left source source') same
@@ -142,7 +142,7 @@ module _ {S K : Type 0} (command : Command)
         fault = more;
       })
 
-  pub long_run : (given : List ℕ) → Takes (intake_of command) left source source' given → FirstFault command given (failures.Refused TooLong) →
+  pub long_run : (given : List ℕ) → Takes (intake_of command) left source source' given → FirstFailure command given (failures.Refused TooLong) →
       read_faults source' ≡ read_faults source →
       IsRun (IsThe command) left read_faults source source' held write_faults out out (Refused TooLong)
   long_run given read more same = record {
@@ -161,7 +161,7 @@ module _ {S K : Type 0} (command : Command)
     write_uncounted = λ other. refl;
     completes = λ c whole asked told steady.
         let known = subst (λ (k : Command). IsGiven (intake_of k) left read_faults source source' whole) asked told in
-        let first : FirstFault command whole (failures.Refused TooLong) =
+        let first : FirstFailure command whole (failures.Refused TooLong) =
         over_whole left read_faults source source' given whole command known read more in
         let one = command_answer command whole in
         subst (λ (k : Command). Completes k whole (Refused TooLong)) (sym asked) (record {

@@ -17,7 +17,7 @@ use Rattle.cert_text.specs.Loads.{IsCertTree}
 use Rattle.cert_text.specs.Trees.{IsShallow}
 use Rattle.compact_main.specs.declared.sample.TheConstants.{MOST_SAMPLE}
 use Rattle.compact_main.specs.Samples.{IsSample, sample_text, greatest_along, IsSampleOutput}
-use Rattle.compact_main.specs.inner.Proofs.{CanCheck, CanMeasure}
+use Rattle.compact_main.specs.inner.CertificateChecks.{CanCheckCertificate, CanMeasure}
 use Rattle.compact_main.proofs.BestDrawings.{best_within}
 use Rattle.cert_text.proofs.Laws.{made_best}
 use Rattle.compact_main.proofs.ShownBest.{shallow_enough}
@@ -43,7 +43,7 @@ module _ (number : ℕ) (shape : Shape) (places best : Places) (some : 1 ≤ num
     near = near_in_steps best (best_within shape sound best first)
 
     -- its certificate can be checked
-    pub sample_checked : (nodes : List CertNode) → IsCertTree nodes → IsShallow MOST_SPLITS nodes → CanCheck shape best nodes
+    pub sample_checked : (nodes : List CertNode) → IsCertTree nodes → IsShallow MOST_SPLITS nodes → CanCheckCertificate shape best nodes
     sample_checked nodes tree shallow = record {
       drawing = first.drawing;
       near = near;

@@ -17,8 +17,8 @@ use Rattle.compact_main.specs.declared.drawing.Drawing.{Drawing}
 use Rattle.compact_main.specs.declared.command.Form.TheVariants.{Certified}
 use Rattle.compact_main.specs.Drawings.{shape_of, HoldsDrawing, AreBestPlaces, IsAccepted}
 use Rattle.compact_main.specs.Outputs.{Draws, DrawsBest, IsCertified}
-use Rattle.compact_main.specs.inner.Found.{IsFound}
-use Rattle.compact_main.proofs.Sound.{sound_shape}
+use Rattle.compact_main.specs.inner.FoundDrawings.{HasFoundBest}
+use Rattle.compact_main.proofs.ReadShapes.{sound_shape}
 
 -- what a search can make is not too deep for a check
 pub shallow_enough : (nodes : List CertNode) → IsShallow MOST_SPLITS nodes → IsShallow MOST_CHOICES nodes
@@ -40,6 +40,6 @@ drawn_certified drawing pitch places nodes front (Err refused) draws accepted sh
 
 -- what a search has found
 pub found : {E : Type 0} (shape : Shape) (result : Result (Best Flows) E) → IfOk result (λ best. IsBest total_length shape best.key.places) →
-    IfOk result (λ best. HasEnded total_length DoBack shape best.key best.board) → IfOk result (IsFound shape)
+    IfOk result (λ best. HasEnded total_length DoBack shape best.key best.board) → IfOk result (HasFoundBest shape)
 found shape (Ok best) first ended = record { best = first; ended = ended }
 found shape (Err refused) first ended = tt

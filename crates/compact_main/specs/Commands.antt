@@ -86,12 +86,12 @@ IsTeam workers = (1 ≤ workers) × (workers ≤ MOST_WORKERS)
 
 -- the number of the command is within its limits: with its pitch the coordinates of a drawing can
 -- be read again, and a sample has few vertices
-abbrev pub IsWithinLimits : Command → Type 0
-IsWithinLimits (Draw pitch form) = (1 ≤ pitch) × (pitch ≤ MOST_PITCH)
-IsWithinLimits Check = Unit {0}
-IsWithinLimits Measure = Unit {0}
-IsWithinLimits Verify = Unit {0}
-IsWithinLimits (Sample number) = (1 ≤ number) × (number ≤ MOST_SAMPLE)
+abbrev pub IsCommandWithinLimits : Command → Type 0
+IsCommandWithinLimits (Draw pitch form) = (1 ≤ pitch) × (pitch ≤ MOST_PITCH)
+IsCommandWithinLimits Check = Unit {0}
+IsCommandWithinLimits Measure = Unit {0}
+IsCommandWithinLimits Verify = Unit {0}
+IsCommandWithinLimits (Sample number) = (1 ≤ number) × (number ≤ MOST_SAMPLE)
 
 -- this command is asked for, and no other
 abbrev pub IsThe : Command → Command → Type 0

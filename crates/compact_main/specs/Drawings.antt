@@ -79,16 +79,16 @@ abbrev pub IsFirstFlaw : Drawing → Places → List CertNode → CheckFault →
 IsFirstFlaw drawing places nodes fault = FirstCheckFault (shape_of drawing) places nodes fault
 
 -- how many thousandths a grid step has at a pitch
-abbrev pub step_of : ℕ → ℤ
-step_of pitch = THOUSANDTHS *ℤ pos pitch
+abbrev pub grid_step : ℕ → ℤ
+grid_step pitch = THOUSANDTHS *ℤ pos pitch
 
 -- the drawing as it was read is on the grid of the pitch, at these places in grid steps; or this
 -- vertex is the first that is not on the grid
 abbrev pub IsOnGridAt : Drawing → ℕ → Places → Type 0
-IsOnGridAt drawing pitch places = IsScaled (step_of pitch) drawing.reading.places places
+IsOnGridAt drawing pitch places = IsScaled (grid_step pitch) drawing.reading.places places
 
 abbrev pub IsFirstOffGrid : Drawing → ℕ → ℕ → Type 0
-IsFirstOffGrid drawing pitch vertex = IsFirstOff (step_of pitch) drawing.reading.places vertex
+IsFirstOffGrid drawing pitch vertex = IsFirstOff (grid_step pitch) drawing.reading.places vertex
 
 -- the numbers are those of the drawing, its length as it was read, in thousandths
 pub record IsSummary (drawing : Drawing) (summary : Summary) : Type 0 where

@@ -75,8 +75,8 @@ draw_text (TooManyVertices count) = decimal count ++ codes " vertices"
 draw_text (TooManyPieces count) = decimal count ++ codes " pieces"
 
 -- two pieces by their numbers
-abbrev pub pair_text : ℕ → ℕ → List ℕ
-pair_text p q = around (codes "pieces ") p (codes " and ") ++ decimal q
+abbrev pub two_pieces_text : ℕ → ℕ → List ℕ
+two_pieces_text p q = around (codes "pieces ") p (codes " and ") ++ decimal q
 
 -- where they meet, in thousandths
 abbrev pub meeting_text : ℤ → ℤ → List ℕ
@@ -87,7 +87,7 @@ abbrev pub shape_text : ShapeFault → List ℕ
 shape_text (ZeroPiece piece) = around (codes "piece ") piece (codes " has no length")
 shape_text (Slanted piece) = around (codes "piece ") piece (codes " is slanted")
 shape_text (Disconnected vertex) = around (codes "vertex ") vertex (codes " is not joined")
-shape_text (Meeting p q x y) = pair_text p q ++ meeting_text x y
+shape_text (Meeting p q x y) = two_pieces_text p q ++ meeting_text x y
 
 -- why a text is refused, by a command that reads no more than the limit
 abbrev pub why_text : ℕ → Why → List ℕ
@@ -156,7 +156,7 @@ IsNoted line held held' faults faults' =
     ⊎ (AppendsFront held held' line × Counted faults faults')
 
 -- what the sink of the notes gained in the run of a program that is asked for these commands
-pub record IsTold {N : Type 0} (Asked : Command → Type 0)
+pub record IsNotified {N : Type 0} (Asked : Command → Type 0)
     (held : N → Option (List ℕ)) (faults : N → ℕ) (sink sink' : N)
     (status : Status) : Type 0 where
   pub no_notes : status ≡ Done → sink' ≡ sink

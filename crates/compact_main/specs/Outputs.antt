@@ -163,6 +163,6 @@ FirstGap Verify text unproved =
     (drawing : Drawing) × IsInput Verify text drawing × FirstUnproved text drawing unproved
 
 -- the command has no answer for the text for this cause, the first that holds
-abbrev pub FirstFault : Command → List ℕ → Failure → Type 0
-FirstFault command text (Refused why) = FirstRefusal command text why
-FirstFault command text (NotProved unproved) = FirstGap command text unproved
+abbrev pub FirstFailure : Command → List ℕ → Failure → Type 0
+FirstFailure command text (Refused why) = FirstRefusal command text why
+FirstFailure command text (NotProved unproved) = FirstGap command text unproved

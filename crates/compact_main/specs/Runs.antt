@@ -15,7 +15,7 @@ use Rattle.compact_main.specs.declared.status.Status.TheVariants.{Done, Refused,
 use Rattle.compact_main.specs.declared.status.Status.TheVariants.{ReadFault, WriteFault, NoMemory}
 use Rattle.compact_main.specs.declared.status.Status.TheVariants.{NotProved}
 use Rattle.compact_main.specs.Intakes.{intake_of, limit_of, Takes, IsReadOut, MayFailAfter, IsGiven}
-use Rattle.compact_main.specs.Outputs.{Output, IsValid, FirstFault}
+use Rattle.compact_main.specs.Outputs.{Output, IsValid, FirstFailure}
 
 -- a command was asked for, all that it reads was read, and this is what it writes for that
 pub record Answers {S : Type 0} (Asked : Command → Type 0) (left : S → Option (List ℕ))
@@ -51,7 +51,7 @@ pub record IsFailed {S : Type 0} (Asked : Command → Type 0) (failure : Failure
   pub read : Takes (intake_of command) left source source' text
   pub to_the_end : (failure ≡ failures.Refused TooLong → ⊥) →
       IsReadOut (intake_of command) left source'
-  pub fault : FirstFault command text failure
+  pub fault : FirstFailure command text failure
 
 -- a command was asked for, and a read failed after no more bytes than it reads
 pub record IsReadFault {S : Type 0} (Asked : Command → Type 0) (left : S → Option (List ℕ))
@@ -75,9 +75,9 @@ pub record IsStopped {S : Type 0} (Asked : Command → Type 0) (left : S → Opt
 -- first fault, unless memory is refused
 pub record Completes (command : Command) (text : List ℕ) (status : Status) : Type 0 where
   pub done : IsValid command text → (status ≡ Done) ⊎ (status ≡ NoMemory)
-  pub refused : (why : Why) → FirstFault command text (failures.Refused why) →
+  pub refused : (why : Why) → FirstFailure command text (failures.Refused why) →
       (status ≡ Refused why) ⊎ (status ≡ NoMemory)
-  pub not_proved : (unproved : Unproved) → FirstFault command text (failures.NotProved unproved) →
+  pub not_proved : (unproved : Unproved) → FirstFailure command text (failures.NotProved unproved) →
       (status ≡ NotProved unproved) ⊎ (status ≡ NoMemory)
 
 -- the run of a program that is asked for these commands, mostly for one or for none

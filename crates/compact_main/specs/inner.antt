@@ -1,7 +1,7 @@
-pub mod Askings
-pub mod Rooms
+pub mod WordOptions
+pub mod NoteRooms
 pub mod PairCounts
 pub mod Writes
-pub mod Found
-pub mod Proofs
+pub mod FoundDrawings
+pub mod CertificateChecks
 pub mod Readings

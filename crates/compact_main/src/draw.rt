@@ -5,11 +5,11 @@ ghost use Rattle.compact_types.specs.Refusals.{IfFault};
 ghost use Rattle.cert_text.specs.Certificates.{IsPitch};
 ghost use Rattle.cert_text.specs.Loads.{IsCertTree};
 ghost use Rattle.compact_main.specs.declared.command.Form.TheVariants as forms;
-ghost use Rattle.compact_main.specs.Commands.{IsWithinLimits};
+ghost use Rattle.compact_main.specs.Commands.{IsCommandWithinLimits};
 ghost use Rattle.compact_main.specs.Drawings.{AreBestPlaces, shape_of};
 ghost use Rattle.compact_main.specs.Intakes.{limit_of};
-ghost use Rattle.compact_main.specs.Outputs.{Draws, DrawsBest, IsCertified, Output, FirstFault};
-ghost use Rattle.compact_main.specs.inner.Found.{IsFound, IsRead};
+ghost use Rattle.compact_main.specs.Outputs.{Draws, DrawsBest, IsCertified, Output, FirstFailure};
+ghost use Rattle.compact_main.specs.inner.FoundDrawings.{HasFoundBest, IsRead};
 
 use crate::command::{Command, Form};
 use crate::drawing::{Drawing, input_of};
@@ -33,9 +33,9 @@ pub(crate) fn draw<X: Search, R: Threads + Sync>(
 ) -> Result<Items<u8>, Refusal<Failure>>
     requires ready { X.is_ready search.now }
     requires within { length bytes.now ≤ limit_of (Command.Draw pitch form) }
-    requires pitch { IsWithinLimits (Command.Draw pitch form) }
+    requires pitch { IsCommandWithinLimits (Command.Draw pitch form) }
     ensures output { IfOk result (Output (Command.Draw pitch form) bytes.now) }
-    ensures fault { IfFault result (FirstFault (Command.Draw pitch form) bytes.now) }
+    ensures fault { IfFault result (FirstFailure (Command.Draw pitch form) bytes.now) }
 {
     let drawing = input_of(rt, alloc, Command::Draw { pitch, form }, bytes)?;
     let best = best_of(alloc, search, &drawing)?;
@@ -46,7 +46,7 @@ pub(crate) fn draw<X: Search, R: Threads + Sync>(
 fn best_of<X: Search>(alloc: Global, search: &X, drawing: &Drawing) -> Result<Best<Flows>, NoMemory>
     requires ready { X.is_ready search.now }
     requires read { IsRead drawing.now }
-    ensures { IfOk result (IsFound (shape_of drawing.now)) }
+    ensures { IfOk result (HasFoundBest (shape_of drawing.now)) }
 {
     search.best(alloc, &drawing.bars, &drawing.reading.places)
 }
@@ -60,7 +60,7 @@ fn write(
     form: Form,
 ) -> Result<Items<u8>, NoMemory>
     requires read { IsRead drawing }
-    requires found { IsFound (shape_of drawing) best.now }
+    requires found { HasFoundBest (shape_of drawing) best.now }
     requires pitch { IsPitch pitch }
     ensures { IfOk result (Draws form drawing pitch) }
 {
@@ -78,7 +78,7 @@ fn write_certified(
     pitch: u32,
 ) -> Result<Items<u8>, NoMemory>
     requires read { IsRead drawing }
-    requires found { IsFound (shape_of drawing) best.now }
+    requires found { HasFoundBest (shape_of drawing) best.now }
     requires pitch { IsPitch pitch }
     ensures { IfOk result (Draws forms.Certified drawing pitch) }
 {

@@ -5,7 +5,7 @@ ghost use Rattle.compact_types.specs.Refusals.{Decides, IfFault};
 ghost use Rattle.gml_text.specs.declared.limits.TheConstants.{MOST_BYTES};
 ghost use Rattle.compact_main.specs.Drawings.{HoldsDrawing, FirstTextFault};
 ghost use Rattle.compact_main.specs.Intakes.{limit_of};
-ghost use Rattle.compact_main.specs.Outputs.{IsInput, FirstFault};
+ghost use Rattle.compact_main.specs.Outputs.{IsInput, FirstFailure};
 ghost use Rattle.compact_main.specs.inner.Readings.{ReadsDrawing};
 
 use crate::command::Command;
@@ -37,7 +37,7 @@ pub(crate) fn input_of<R: Threads + Sync>(
     requires drawing { ReadsDrawing command }
     requires within { length bytes.now ≤ limit_of command }
     ensures input { IfOk result (IsInput command bytes.now) }
-    ensures fault { IfFault result (FirstFault command bytes.now) }
+    ensures fault { IfFault result (FirstFailure command bytes.now) }
 {
     match drawing_of(rt, alloc, bytes) {
         Ok(drawing) => Ok(drawing),

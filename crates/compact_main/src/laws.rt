@@ -14,11 +14,11 @@ ghost use Rattle.cert_text.specs.declared.tree.CertNode.{CertNode};
 ghost use Rattle.cert_text.specs.declared.trimming.TheConstants.{MOST_SPLITS};
 ghost use Rattle.cert_text.specs.Accepting.{Accepts};
 ghost use Rattle.cert_text.specs.Trees.{IsShallow};
-ghost use Rattle.compact_main.specs.Commands.{Asks, IsWithinLimits};
+ghost use Rattle.compact_main.specs.Commands.{Asks, IsCommandWithinLimits};
 ghost use Rattle.compact_main.specs.Drawings.{HoldsDrawing, FirstTextFault};
 ghost use Rattle.compact_main.specs.Drawings.{AreBestPlaces, IsAccepted};
 ghost use Rattle.compact_main.specs.Intakes.{limit_of};
-ghost use Rattle.compact_main.specs.Outputs.{Output, IsProved, IsValid, FirstFault};
+ghost use Rattle.compact_main.specs.Outputs.{Output, IsProved, IsValid, FirstFailure};
 ghost use Rattle.compact_main.specs.Outputs.{IsCertified, IsUncertified};
 ghost use Rattle.compact_main.specs.Samples.{IsSample};
 ghost use Rattle.compact_main.specs.Summaries.{IsCount, IsPairCount, IsSeparatedPair};
@@ -41,7 +41,7 @@ pub fn texts_have_one_answer()
 /// refused, or, if it was to be verified, not proved.
 pub fn texts_are_accepted_or_refused()
     ensures { (command : Command) (text : List ℕ) →
-        HasOneAnswer (λ (accepted : Unit {0}). IsValid command text) (FirstFault command text) }
+        HasOneAnswer (λ (accepted : Unit {0}). IsValid command text) (FirstFailure command text) }
 {}
 
 /// A law: a text for which a command has an output is one that it accepts; and each text that it
@@ -75,7 +75,7 @@ pub fn outputs_are_functions_of_the_text()
 /// A law: the text of a drawing with its certificate is proved, if it has no more bytes than a text
 /// that is verified may have.
 pub fn what_draw_writes_is_proved()
-    ensures { (pitch : ℕ) (text written : List ℕ) → IsWithinLimits (Draw pitch Certified) →
+    ensures { (pitch : ℕ) (text written : List ℕ) → IsCommandWithinLimits (Draw pitch Certified) →
         Output (Draw pitch Certified) text written → length written ≤ limit_of Command.Verify →
         IsValid Command.Verify written }
 {}
@@ -95,7 +95,7 @@ pub fn certificates_show_the_best()
         HoldsDrawing text drawing → IsAccepted drawing places nodes →
         IsShallow MOST_SPLITS nodes → AreBestPlaces drawing places }
     ensures sampled { (number : ℕ) (shape : Shape) (places best : Places) (nodes : List CertNode) →
-        IsWithinLimits (Command.Sample number) → IsSample number shape.plan places →
+        IsCommandWithinLimits (Command.Sample number) → IsSample number shape.plan places →
         IsShapeOf shape.plan places shape → Accepts shape best nodes →
         IsShallow MOST_SPLITS nodes → IsBest total_length shape best }
 {}

@@ -4,8 +4,8 @@
 //! workers and the schedule. `run_alone` works with one worker, carries the same promise and always
 //! returns. `IsRun` says what the run did, for words, a source and a sink of any kind: what was
 //! read and written, how each status came about, and that every text has an output or is refused
-//! with its first fault. `IsTold` says what the user was told. The laws say that a text is accepted
-//! or has one first fault, and that what is written is a function of the text.
+//! with its first fault. `IsNotified` says what the user was told. The laws say that a text is
+//! accepted or has one first fault, and that what is written is a function of the text.
 #![tactic(auto)]
 
 mod command;

@@ -2,7 +2,7 @@
 
 ghost use Rattle.std.specs.Prelude.{◌≡◌, ◌+◌, ◌≤◌, [], ◌++◌, length, codes, decimal};
 ghost use Rattle.compact_main.specs.Notes.{around};
-ghost use Rattle.compact_main.specs.inner.Rooms.{IsAdded};
+ghost use Rattle.compact_main.specs.inner.NoteRooms.{IsAppended};
 
 use itoa::{Buffer, Integer};
 use std::marker::Model;
@@ -41,7 +41,7 @@ impl Note {
 
     /// Adds `text` at the end, as much of it as there is room for.
     pub(crate) fn push(&mut self, text: &[u8])
-        ensures { IsAdded self.old self.new text.now }
+        ensures { IsAppended self.old self.new text.now }
     {
         let count = (NOTE_ROOM - self.length).min(text.len());
         let end = self.length + count;
@@ -51,7 +51,7 @@ impl Note {
 
     /// Adds a text and the offset that it speaks of.
     pub(crate) fn push_at(&mut self, text: &[u8], at: u32)
-        ensures added { IsAdded self.old self.new (text.now ++ codes " at byte " ++ decimal at) }
+        ensures added { IsAppended self.old self.new (text.now ++ codes " at byte " ++ decimal at) }
         ensures short { length (text.now ++ codes " at byte " ++ decimal at)
             ≤ length text.now + 19 }
     {
@@ -62,7 +62,7 @@ impl Note {
 
     /// Adds a number between two texts.
     pub(crate) fn push_around(&mut self, front: &[u8], number: u32, back: &[u8])
-        ensures added { IsAdded self.old self.new (around front.now number back.now) }
+        ensures added { IsAppended self.old self.new (around front.now number back.now) }
         ensures short { length (around front.now number back.now)
             ≤ length front.now + 10 + length back.now }
     {
@@ -73,7 +73,7 @@ impl Note {
 
     /// Adds the digits of `number`.
     pub(crate) fn push_number<I: Integer>(&mut self, number: I)
-        ensures added { IsAdded self.old self.new (I.text number) }
+        ensures added { IsAppended self.old self.new (I.text number) }
         ensures short { length (I.text number) ≤ I.MAX_STR_LEN }
     {
         let mut buffer = Buffer::new();

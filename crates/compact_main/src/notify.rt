@@ -4,10 +4,10 @@
 ghost use Rattle.std.specs.Prelude.{◌≡◌, ◌+◌, ◌≤◌, ◌++◌, length, codes};
 ghost use Rattle.compact_main.specs.Notes.{note_text, status_text, why_text, IsNoted};
 ghost use Rattle.compact_main.specs.Notes.{kind_text, cause_text, draw_text, shape_text};
-ghost use Rattle.compact_main.specs.Notes.{pair_text, meeting_text, around};
+ghost use Rattle.compact_main.specs.Notes.{two_pieces_text, meeting_text, around};
 ghost use Rattle.compact_main.specs.Notes.{cert_kind_text, check_text, unproved_text, entry_text};
 ghost use Rattle.cert_text.specs.Texts.{axis_text};
-ghost use Rattle.compact_main.specs.inner.Rooms.{IsAdded};
+ghost use Rattle.compact_main.specs.inner.NoteRooms.{IsAppended};
 
 use crate::note::Note;
 use crate::status::{Status, Unproved, Why};
@@ -41,7 +41,7 @@ fn note_of(limit: usize, status: Status) -> Note
 
 /// The line without its line feed.
 fn push_status(note: &mut Note, limit: usize, status: Status)
-    ensures added { IsAdded note.old note.new (status_text limit status) }
+    ensures added { IsAppended note.old note.new (status_text limit status) }
     ensures short { length (status_text limit status) ≤ 200 }
 {
     match status {
@@ -66,7 +66,7 @@ fn push_status(note: &mut Note, limit: usize, status: Status)
 
 /// Why a text is refused.
 fn push_why(note: &mut Note, limit: usize, why: Why)
-    ensures added { IsAdded note.old note.new (why_text limit why) }
+    ensures added { IsAppended note.old note.new (why_text limit why) }
     ensures short { length (why_text limit why) ≤ 150 }
 {
     match why {
@@ -79,7 +79,7 @@ fn push_why(note: &mut Note, limit: usize, why: Why)
 
 /// A text has more bytes than the limit.
 fn push_too_long(note: &mut Note, limit: usize)
-    ensures added { IsAdded note.old note.new
+    ensures added { IsAppended note.old note.new
         (around (codes "more than ") limit (codes " bytes")) }
     ensures short { length (around (codes "more than ") limit (codes " bytes")) ≤ 40 }
 {
@@ -106,7 +106,7 @@ fn kind_of(kind: GmlKind) -> &'static [u8]
 
 /// Why a tree is no drawing.
 fn push_draw_fault(note: &mut Note, fault: DrawFault)
-    ensures added { IsAdded note.old note.new (draw_text fault) }
+    ensures added { IsAppended note.old note.new (draw_text fault) }
     ensures short { length (draw_text fault) ≤ 80 }
 {
     match fault {
@@ -142,7 +142,7 @@ fn cause_of(cause: NumberFault) -> &'static [u8]
 
 /// Why places are no drawing.
 fn push_shape_fault(note: &mut Note, fault: ShapeFault)
-    ensures added { IsAdded note.old note.new (shape_text fault) }
+    ensures added { IsAppended note.old note.new (shape_text fault) }
     ensures short { length (shape_text fault) ≤ 120 }
 {
     match fault {
@@ -159,7 +159,7 @@ fn push_shape_fault(note: &mut Note, fault: ShapeFault)
 
 /// Why a text is not proved.
 fn push_unproved(note: &mut Note, unproved: Unproved)
-    ensures added { IsAdded note.old note.new (unproved_text unproved) }
+    ensures added { IsAppended note.old note.new (unproved_text unproved) }
     ensures short { length (unproved_text unproved) ≤ 120 }
 {
     match unproved {
@@ -173,7 +173,7 @@ fn push_unproved(note: &mut Note, unproved: Unproved)
 
 /// What is wrong with the line of a certificate.
 fn push_cert_fault(note: &mut Note, line: u32, kind: CertKind)
-    ensures added { IsAdded note.old note.new (cert_kind_text line kind) }
+    ensures added { IsAppended note.old note.new (cert_kind_text line kind) }
     ensures short { length (cert_kind_text line kind) ≤ 60 }
 {
     match kind {
@@ -186,7 +186,7 @@ fn push_cert_fault(note: &mut Note, line: u32, kind: CertKind)
 
 /// Why a certificate does not show that its drawing is the best.
 fn push_check_fault(note: &mut Note, fault: CheckFault)
-    ensures added { IsAdded note.old note.new (check_text fault) }
+    ensures added { IsAppended note.old note.new (check_text fault) }
     ensures short { length (check_text fault) ≤ 100 }
 {
     match fault {
@@ -222,7 +222,7 @@ fn name_of(axis: Axis) -> &'static [u8]
 
 /// Adds an entry of a certificate by its number, and what is wrong with it.
 fn push_entry(note: &mut Note, entry: u64, wrong: &[u8])
-    ensures added { IsAdded note.old note.new (entry_text entry wrong.now) }
+    ensures added { IsAppended note.old note.new (entry_text entry wrong.now) }
     ensures short { length (entry_text entry wrong.now) ≤ 26 + length wrong.now }
 {
     note.push(b"entry ");
@@ -232,8 +232,8 @@ fn push_entry(note: &mut Note, entry: u64, wrong: &[u8])
 
 /// Adds two pieces by their numbers, and where they meet.
 fn push_meeting(note: &mut Note, p: u32, q: u32, x: i64, y: i64)
-    ensures added { IsAdded note.old note.new (pair_text p q ++ meeting_text x y) }
-    ensures short { length (pair_text p q ++ meeting_text x y) ≤ 100 }
+    ensures added { IsAppended note.old note.new (two_pieces_text p q ++ meeting_text x y) }
+    ensures short { length (two_pieces_text p q ++ meeting_text x y) ≤ 100 }
 {
     note.push_around(b"pieces ", p, b" and ");
     note.push_number(q);

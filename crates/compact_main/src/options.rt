@@ -6,7 +6,7 @@ ghost use Rattle.workers.specs.declared.several.TheConstants.{MOST_WORKERS};
 ghost use Rattle.compact_main.specs.declared.options.TheConstants.{MOST_OPTION_WORDS};
 ghost use Rattle.compact_main.specs.Commands as commands;
 ghost use Rattle.compact_main.specs.Commands.{texts_of, IsNumberTo, AreOptions};
-ghost use Rattle.compact_main.specs.inner.Askings.{AreFound};
+ghost use Rattle.compact_main.specs.inner.WordOptions.{AreFound};
 
 use crate::command::Form;
 use compact_types::MOST_PITCH;

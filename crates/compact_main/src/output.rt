@@ -2,10 +2,10 @@
 
 ghost use Rattle.std.specs.Prelude.{◌≡◌, ◌≤◌, length, IfOk};
 ghost use Rattle.compact_types.specs.Refusals.{IfFault};
-ghost use Rattle.compact_main.specs.Commands.{IsWithinLimits};
+ghost use Rattle.compact_main.specs.Commands.{IsCommandWithinLimits};
 ghost use Rattle.compact_main.specs.Intakes.{limit_of};
 ghost use Rattle.compact_main.specs.Outputs as outputs;
-ghost use Rattle.compact_main.specs.Outputs.{Output, FirstFault};
+ghost use Rattle.compact_main.specs.Outputs.{Output, FirstFailure};
 
 use crate::command::Command;
 use crate::draw::draw;
@@ -31,9 +31,9 @@ pub(crate) fn answer<X: Search, R: Threads + Sync>(
 ) -> Result<Items<u8>, Refusal<Failure>>
     requires ready { X.is_ready search.now }
     requires within { length bytes.now ≤ limit_of command }
-    requires number { IsWithinLimits command }
+    requires number { IsCommandWithinLimits command }
     ensures output { IfOk result (Output command bytes.now) }
-    ensures fault { IfFault result (FirstFault command bytes.now) }
+    ensures fault { IfFault result (FirstFailure command bytes.now) }
 {
     match command {
         Command::Draw { pitch, form } => draw(rt, alloc, search, pitch, form, bytes),
@@ -52,7 +52,7 @@ fn count<R: Threads + Sync>(
 ) -> Result<Items<u8>, Refusal<Failure>>
     requires { length bytes.now ≤ limit_of Command.Check }
     ensures output { IfOk result (Output Command.Check bytes.now) }
-    ensures fault { IfFault result (FirstFault Command.Check bytes.now) }
+    ensures fault { IfFault result (FirstFailure Command.Check bytes.now) }
 {
     let drawing = input_of(rt, alloc, Command::Check, bytes)?;
     Ok(count_line(alloc, &drawing)?)
@@ -80,7 +80,7 @@ fn measure<R: Threads + Sync>(
 ) -> Result<Items<u8>, Refusal<Failure>>
     requires { length bytes.now ≤ limit_of Command.Measure }
     ensures output { IfOk result (Output Command.Measure bytes.now) }
-    ensures fault { IfFault result (FirstFault Command.Measure bytes.now) }
+    ensures fault { IfFault result (FirstFailure Command.Measure bytes.now) }
 {
     let drawing = input_of(rt, alloc, Command::Measure, bytes)?;
     let summary = summary_of(alloc, &drawing)?;

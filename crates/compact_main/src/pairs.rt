@@ -30,7 +30,7 @@ pub(crate) fn reach_of_shape(alloc: Global, bars: &Bars) -> Result<Reach, NoMemo
 }
 
 /// The counts of all pairs of segments.
-#[tactic(auto, using(crate::proofs::Sound::few_segments_sound))]
+#[tactic(auto, using(crate::proofs::ReadShapes::few_segments_sound))]
 pub(crate) fn count_pairs(bars: &Bars, reach: &Reach) -> PairCounts
     requires { IsReachOf bars.now [] reach.now }
     ensures pairs { IsPairCount (IsPair bars.now) (segment_count bars.now) result.pairs }

@@ -5,11 +5,11 @@ ghost use Rattle.compact_types.specs.declared.limits.TheConstants.{GREATEST_THOU
 ghost use Rattle.compact_types.specs.Drawings.{IsDrawing};
 ghost use Rattle.compact_types.specs.Magnitudes.{AreWithin};
 ghost use Rattle.io_ends.specs.Ends.{CountsRead};
-ghost use Rattle.compact_main.specs.Commands.{texts_of, Asks, IsTeam, IsWithinLimits, IsThe};
+ghost use Rattle.compact_main.specs.Commands.{texts_of, Asks, IsTeam, IsCommandWithinLimits, IsThe};
 ghost use Rattle.compact_main.specs.Intakes.{intake_of, limit_of, Takes, IsReadOut};
-ghost use Rattle.compact_main.specs.Notes.{IsTold};
+ghost use Rattle.compact_main.specs.Notes.{IsNotified};
 ghost use Rattle.compact_main.specs.Runs.{IsRun};
-ghost use Rattle.compact_main.specs.inner.Found.{IsSearched};
+ghost use Rattle.compact_main.specs.inner.FoundDrawings.{IsSearched};
 ghost use Rattle.compact_main.specs.inner.Readings.{IsGivenUp};
 ghost use Rattle.compact_main.specs.inner.Writes.{IsWritten};
 
@@ -46,7 +46,7 @@ pub fn run_alone<S: Source, K: Sink, N: Sink, R: Threads + Sync>(
         S.left S.faults source.old source.new
         K.held K.faults out.old out.new
         result }
-    ensures told { IsTold (Asks (texts_of words.now))
+    ensures told { IsNotified (Asks (texts_of words.now))
         N.held N.faults notes.old notes.new
         result }
 {
@@ -72,7 +72,7 @@ pub fn run<S: Source, K: Sink, N: Sink, G: Gate, R: Threads + Wait + Sync>(
         S.left S.faults source.old source.new
         K.held K.faults out.old out.new
         result }
-    ensures told { IsTold (Asks (texts_of words.now))
+    ensures told { IsNotified (Asks (texts_of words.now))
         N.held N.faults notes.old notes.new
         result }
 {
@@ -106,7 +106,7 @@ fn run_with<X: Search, S: Source, K: Sink, N: Sink, R: Threads + Sync>(
         S.left S.faults source.old source.new
         K.held K.faults out.old out.new
         result }
-    ensures told { IsTold (Asks (texts_of words.now))
+    ensures told { IsNotified (Asks (texts_of words.now))
         N.held N.faults notes.old notes.new
         result }
 {
@@ -132,7 +132,7 @@ fn run_command<X: Search, S: Source, K: Sink, R: Threads + Sync>(
     out: &mut K,
 ) -> Status
     requires ready { X.is_ready search.now }
-    requires number { IsWithinLimits command }
+    requires number { IsCommandWithinLimits command }
     ensures { IsRun (IsThe command)
         S.left S.faults source.old source.new
         K.held K.faults out.old out.new

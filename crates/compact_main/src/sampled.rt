@@ -7,7 +7,7 @@ ghost use Rattle.cert_text.specs.Accepting.{Accepts};
 ghost use Rattle.compact_main.specs.declared.sample.TheConstants.{MOST_SAMPLE};
 ghost use Rattle.compact_main.specs.Samples as samples;
 ghost use Rattle.compact_main.specs.Samples.{IsSampleOutput};
-ghost use Rattle.compact_main.specs.inner.Proofs.{CanCheck, CanMeasure};
+ghost use Rattle.compact_main.specs.inner.CertificateChecks.{CanCheckCertificate, CanMeasure};
 
 use crate::sample::{greatest_along, sample_drawing, sample_text};
 use crate::search::{Search, certificate_of};
@@ -39,7 +39,7 @@ pub(crate) fn draw_sample<X: Search>(
 
 /// Checks a certificate that was made here, so that the check finds no fault in it.
 fn check_own(alloc: Global, bars: &Bars, places: &Places, tree: &CertTree) -> Result<(), NoMemory>
-    requires can { CanCheck bars.now places.now tree.now.nodes }
+    requires can { CanCheckCertificate bars.now places.now tree.now.nodes }
     requires accepted { Accepts bars.now places.now tree.now.nodes }
 {
     match check(alloc, bars, places, tree) {

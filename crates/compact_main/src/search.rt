@@ -11,7 +11,7 @@ ghost use Rattle.cert_text.specs.declared.trimming.TheConstants.{MOST_SPLITS};
 ghost use Rattle.cert_text.specs.Accepting.{Accepts};
 ghost use Rattle.cert_text.specs.Loads.{IsCertTree};
 ghost use Rattle.cert_text.specs.Trees.{IsShallow};
-ghost use Rattle.compact_main.specs.inner.Found.{IsSearched};
+ghost use Rattle.compact_main.specs.inner.FoundDrawings.{IsSearched};
 
 use bars::Bars;
 use cert_text::{CertTree, trim};

@@ -5,7 +5,7 @@ ghost use Rattle.std.specs.Prelude.{◌≡◌, ◌++◌, IfOk, OnOk};
 ghost use Rattle.compact_main.specs.Drawings.{IsSummary};
 ghost use Rattle.compact_main.specs.Summaries as summaries;
 ghost use Rattle.compact_main.specs.Summaries.{number_line};
-ghost use Rattle.compact_main.specs.inner.Found.{IsRead};
+ghost use Rattle.compact_main.specs.inner.FoundDrawings.{IsRead};
 
 use crate::drawing::Drawing;
 use crate::pairs::{count_pairs, reach_of_shape};
@@ -35,7 +35,7 @@ pub struct Summary {
 }
 
 /// The numbers of the drawing.
-#[tactic(auto, using(crate::proofs::Sound::within_limits))]
+#[tactic(auto, using(crate::proofs::ReadShapes::within_limits))]
 pub(crate) fn summary_of(alloc: Global, drawing: &Drawing) -> Result<Summary, NoMemory>
     requires { IsRead drawing.now }
     ensures { IfOk result (IsSummary drawing.now) }

@@ -6,11 +6,11 @@ ghost use Rattle.compact_types.specs.Scalings.{IsScaled, IsFirstOff};
 ghost use Rattle.cert_text.specs.Accepting.{Accepts};
 ghost use Rattle.cert_text.specs.Certificates.{IsPitch};
 ghost use Rattle.cert_check.specs.Faults.{FirstCheckFault};
-ghost use Rattle.compact_main.specs.Drawings.{step_of};
+ghost use Rattle.compact_main.specs.Drawings.{grid_step};
 ghost use Rattle.compact_main.specs.Intakes.{limit_of};
 ghost use Rattle.compact_main.specs.Outputs as outputs;
-ghost use Rattle.compact_main.specs.Outputs.{IsInput, Output, FirstFault, FirstUnproved};
-ghost use Rattle.compact_main.specs.inner.Proofs.{CanCheck, IsProvedAt};
+ghost use Rattle.compact_main.specs.Outputs.{IsInput, Output, FirstFailure, FirstUnproved};
+ghost use Rattle.compact_main.specs.inner.CertificateChecks.{CanCheckCertificate, IsProvedAt};
 
 use crate::command::Command;
 use crate::drawing::{Drawing, input_of};
@@ -34,7 +34,7 @@ pub(crate) fn verify<R: Threads + Sync>(
 ) -> Result<Items<u8>, Refusal<Failure>>
     requires { length bytes.now ≤ limit_of Command.Verify }
     ensures output { IfOk result (Output Command.Verify bytes.now) }
-    ensures fault { IfFault result (FirstFault Command.Verify bytes.now) }
+    ensures fault { IfFault result (FirstFailure Command.Verify bytes.now) }
 {
     let drawing = input_of(rt, alloc, Command::Verify, bytes)?;
     match proved_length(alloc, bytes, drawing) {
@@ -68,8 +68,8 @@ fn proved_length(alloc: Global, bytes: &[u8], drawing: Drawing) -> Result<i64, R
 fn grid_places(places: Places, pitch: u32) -> Result<Places, u32>
     requires pitch { IsPitch pitch }
     requires few { length places.xy ≤ 1000 }
-    ensures scaled { IfOk result (IsScaled (step_of pitch) places) }
-    ensures off { IfErr result (IsFirstOff (step_of pitch) places) }
+    ensures scaled { IfOk result (IsScaled (grid_step pitch) places) }
+    ensures off { IfErr result (IsFirstOff (grid_step pitch) places) }
 {
     let mut scaled = places;
     scale_down(&mut scaled, THOUSANDTHS * i64::from(pitch))?;
@@ -84,7 +84,7 @@ pub(crate) fn check(
     places: &Places,
     tree: &CertTree,
 ) -> Result<(), Refusal<CheckFault>>
-    requires { CanCheck bars.now places.now tree.now.nodes }
+    requires { CanCheckCertificate bars.now places.now tree.now.nodes }
     ensures accepted { OnOk result (Accepts bars.now places.now tree.now.nodes) }
     ensures fault { IfFault result (FirstCheckFault bars.now places.now tree.now.nodes) }
 {

@@ -4,7 +4,7 @@ ghost use Rattle.std.specs.Prelude.{◌≡◌, ◌↔◌, ℕ, ◌<◌, [], ◌�
 ghost use Rattle.std.specs.Prelude.{IfSome, IfNone};
 ghost use Rattle.compact_main.specs.declared.command.Command.{Command};
 ghost use Rattle.compact_main.specs.Commands.{texts_of, Asks, AskForWorkers, IsTeam};
-ghost use Rattle.compact_main.specs.inner.Askings.{AreFound, IsRequest};
+ghost use Rattle.compact_main.specs.inner.WordOptions.{AreFound, IsRequest};
 
 use crate::command::Command;
 use crate::options::{Options, form_of, has_too_many, is_text, number_of, options_of, workers_of};

@@ -27,5 +27,5 @@ pub use Rattle.compact_types.proofs.OrderLemmas.{list_not_before_itself, list_be
 pub use Rattle.compact_types.proofs.MoveLemmas.{length-moved, place-moved, moved_back, moved_there, places_moved_back, places_moved_twice, begin-moved, end-moved, crossing_free-moved, drawing-moved, gap-moved, distance-moved, plain_length-moved, difference-moved, distance_places-moved, some_from_zero, one_shift, one_from_zero}
 -- places that are scaled down, and up
 pub use Rattle.compact_types.proofs.ScalingLemmas.{coordinate-scaled, ways-scaled, ways_of_scaled, crossing_free-scaled, drawing-scaled, length-scaled, from_zero-scaled, from_zero_of_scaled, within-scaled, one_scaled, scaled_not_off, one_first_off}
-pub use Rattle.compact_types.proofs.ScaledUp.{crossing_free_of_scaled, drawing_of_scaled, two_ends, same_end}
+pub use Rattle.compact_types.proofs.ScaledDrawings.{crossing_free_of_scaled, drawing_of_scaled, two_ends, same_end}
 pub use Rattle.compact_types.proofs.GridLemmas.{some_scaled_or_off}

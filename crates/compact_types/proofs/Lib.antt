@@ -16,6 +16,6 @@ pub mod CornerLemmas
 pub mod Multiples
 pub mod DivisionLemmas
 pub mod ScalingLemmas
-pub mod ScaledUp
+pub mod ScaledDrawings
 pub mod GridLemmas
 pub mod Laws

@@ -1,7 +1,7 @@
 pub mod formers
 pub mod Lending
 pub mod Refusals
-pub mod Mapping
+pub mod MappedRefusals
 pub mod Stages
 pub mod Lookups
 pub mod Ways

@@ -1,7 +1,7 @@
 //! Why a call did not give a value.
 
 ghost use Rattle.std.specs.Prelude.{◌≡◌};
-ghost use Rattle.compact_types.specs.Mapping.{ForFault, IsMapped};
+ghost use Rattle.compact_types.specs.MappedRefusals.{ForFault, IsMapped};
 ghost use Rattle.compact_types.specs.declared.refusal.Refusal.TheVariants as refusals;
 
 use std::alloc::{AllocError, AllocFailed};

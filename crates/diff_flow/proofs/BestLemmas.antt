@@ -13,11 +13,11 @@ use Rattle.shape_graphs.specs.declared.graph.TheConstants.{MOST_ARCS}
 use Rattle.shape_graphs.specs.Arcs.{arc_at, EndsAreNodes, AreArcsWithin}
 use Rattle.shape_graphs.specs.Flows.{amount_at, at_node, net, Balances, bound_of, IsBestFlow}
 use Rattle.shape_graphs.specs.declared.graph.TheConstants.{MOST_AMOUNT}
-use Rattle.diff_flow.specs.declared.steps.Step.{Step}
+use Rattle.diff_flow.specs.declared.steps.ResidualArc.{ResidualArc}
 use Rattle.diff_flow.specs.Amounts.{IsFlowOn}
 use Rattle.diff_flow.specs.Tight.{AreTight}
 use Rattle.diff_flow.specs.Improving.{IsBestByNumbers, IsRaised}
-use Rattle.diff_flow.specs.inner.Steps.{step_at, along_at, AreStepsOf, ArePaired, IsOpen, AreMet}
+use Rattle.diff_flow.specs.inner.Steps.{step_at, along_at, AreStepsOf, ArePaired, IsResidual, AreMet}
 use Rattle.diff_flow.specs.inner.Numbers.{height, AreLeastMet}
 use Rattle.diff_flow.specs.inner.Routing.{net_by, IsSpread, IsRouting, AreDropped, AreGiven, AreFirst}
 use Rattle.compact_types.proofs.Laws.{times-le_pos}
@@ -41,7 +41,7 @@ no_sum n =
     omega (arith, most)
 
 -- least numbers that meet steps are first ones
-pub walks_meet : (nodes arcs limit : ℕ) (steps : List Step) (amounts numbers : List ℕ) → ArePaired arcs steps →
+pub walks_meet : (nodes arcs limit : ℕ) (steps : List ResidualArc) (amounts numbers : List ℕ) → ArePaired arcs steps →
     AreLeastMet nodes steps amounts limit numbers → AreFirst nodes arcs limit steps numbers
 walks_meet nodes arcs limit steps amounts numbers paired least = record {
   one_for_each = least.low.one_for_each;
@@ -50,7 +50,7 @@ walks_meet nodes arcs limit steps amounts numbers paired least = record {
 }
 
 -- nothing is dropped yet
-pub dropped_first : (nodes arcs : ℕ) (steps : List Step) (numbers given : List ℕ) → length given ≡ arcs →
+pub dropped_first : (nodes arcs : ℕ) (steps : List ResidualArc) (numbers given : List ℕ) → length given ≡ arcs →
     ((i : ℕ) → i < arcs → amount_at given i ≤ 2 ^ 50) →
     AreDropped nodes arcs 0 steps numbers given (replicate {A = ℕ} nodes 0) (replicate {A = ℕ} nodes 0)
 dropped_first nodes arcs steps numbers given all low = record {
@@ -66,12 +66,12 @@ dropped_first nodes arcs steps numbers given all low = record {
   tight = λ i before. absurd (omega arith);
 }
 
-pub spread_first : (nodes arcs : ℕ) (steps : List Step) (given : List ℕ) →
+pub spread_first : (nodes arcs : ℕ) (steps : List ResidualArc) (given : List ℕ) →
     IsSpread nodes arcs steps given given (replicate {A = ℕ} nodes 0) (replicate {A = ℕ} nodes 0)
 spread_first nodes arcs steps given v inside = refl
 
 -- numbers that meet all arcs, and just meet those with an amount, meet all open steps
-pub met_where_just : (arcs : ℕ) (steps : List Step) (amounts numbers : List ℕ) → ArePaired arcs steps →
+pub met_where_just : (arcs : ℕ) (steps : List ResidualArc) (amounts numbers : List ℕ) → ArePaired arcs steps →
     ((k : ℕ) → k < arcs → height numbers (along_at steps k).from + (along_at steps k).up ≤ height numbers (along_at steps k).to) →
     ((k : ℕ) → k < arcs → 0 < amount_at amounts k →
     height numbers (along_at steps k).to ≤ height numbers (along_at steps k).from + (along_at steps k).up) →
@@ -101,11 +101,11 @@ met_where_just arcs steps amounts numbers paired met just k inside opens =
           omega (arith, is, from, to, down, up)
     ]
   where
-    some_at : (k : ℕ) → (step_at steps k).up ≡ 0 → IsOpen amounts (step_at steps k) → 0 < amount_at amounts (step_at steps k).arc
+    some_at : (k : ℕ) → (step_at steps k).up ≡ 0 → IsResidual amounts (step_at steps k) → 0 < amount_at amounts (step_at steps k).arc
     some_at k up opens = omega (arith, up, opens)
 
 -- all amounts that are left are tight
-pub routing_first : (nodes arcs limit : ℕ) (steps : List Step) (given amounts numbers over want : List ℕ) → ArePaired arcs steps →
+pub routing_first : (nodes arcs limit : ℕ) (steps : List ResidualArc) (given amounts numbers over want : List ℕ) → ArePaired arcs steps →
     length numbers ≡ nodes → ((v : ℕ) → v < nodes → height numbers v ≤ limit) →
     ((k : ℕ) → k < arcs → height numbers (along_at steps k).from + (along_at steps k).up ≤ height numbers (along_at steps k).to) →
     AreGiven arcs given → AreDropped nodes arcs arcs steps numbers amounts over want → IsSpread nodes arcs steps given amounts over want →
@@ -122,7 +122,7 @@ routing_first nodes arcs limit steps given amounts numbers over want paired one_
 }
 
 -- without excess nothing lacks, and the amounts balance as the given ones do
-pub arrived : (nodes arcs limit : ℕ) (steps : List Step) (given amounts numbers over want : List ℕ) →
+pub arrived : (nodes arcs limit : ℕ) (steps : List ResidualArc) (given amounts numbers over want : List ℕ) →
     IsRouting nodes arcs limit steps amounts numbers over want → IsSpread nodes arcs steps given amounts over want →
     ((v : ℕ) → v < nodes → get_or over v 0 ≡ 0) →
     (v : ℕ) → v < nodes → net_by steps arcs amounts v ≡ net_by steps arcs given v
@@ -135,7 +135,7 @@ arrived nodes arcs limit steps given amounts numbers over want routing spread no
     omega (arith, ints, is, here, lacks)
 
 -- steps and arcs give one net
-pub net_same : (arcs : List Arc) (steps : List Step) (amounts : List ℕ) (v : ℕ) → AreStepsOf arcs steps →
+pub net_same : (arcs : List Arc) (steps : List ResidualArc) (amounts : List ℕ) (v : ℕ) → AreStepsOf arcs steps →
     net_by steps (length arcs) amounts v ≡ net arcs (λ i. pos (amount_at amounts i)) v
 net_same arcs steps amounts v are = sum_to-same _ _ (length arcs) (λ i inside. let is = are.along i inside in
     two (pos (amount_at amounts i)) is.from is.to)
@@ -156,7 +156,7 @@ pulls_few arcs within few =
     let most = (within j inside).most_pull in omega (arith, ints, is, most)) in
     omega (arith, ints, same, low, few)
 
-module _ (nodes : ℕ) (arcs : List Arc) (steps : List Step) (given amounts : List ℕ) (h : ℕ → ℕ) (ends : EndsAreNodes nodes arcs)
+module _ (nodes : ℕ) (arcs : List Arc) (steps : List ResidualArc) (given amounts : List ℕ) (h : ℕ → ℕ) (ends : EndsAreNodes nodes arcs)
     (within : AreArcsWithin arcs) (few : length arcs ≤ MOST_ARCS) (are : AreStepsOf arcs steps) (balances : Balances nodes arcs given)
     (all : length amounts ≡ length arcs)
     (net_kept : (v : ℕ) → v < nodes → net_by steps (length arcs) amounts v ≡ net_by steps (length arcs) given v) where

@@ -5,11 +5,11 @@ use Rattle.std.proofs.lemmas.Int.{ints}
 use Rattle.std.proofs.lemmas.Bool.{cases_eq, cases_lt}
 use Rattle.std.proofs.lemmas.List.{get_or-set_same, get_or-set_other, length-set, length-replicate}
 use Rattle.shape_graphs.specs.Flows.{amount_at, at_node}
-use Rattle.diff_flow.specs.declared.steps.Step.{Step}
+use Rattle.diff_flow.specs.declared.steps.ResidualArc.{ResidualArc}
 use Rattle.diff_flow.specs.declared.tree.Reached.{Reached}
 use Rattle.diff_flow.specs.inner.Steps.{step_at, along_at, against_at, AreStepsWithin, ArePaired, AreMet}
 use Rattle.diff_flow.specs.inner.Numbers.{height, NoneMeet}
-use Rattle.diff_flow.specs.inner.Search.{entry_at, IsPassable, IsTree, NoneLacks, ArePassed}
+use Rattle.diff_flow.specs.inner.Search.{entry_at, IsPassable, IsTree, NoneLacks, AreFollowed}
 use Rattle.diff_flow.specs.inner.Routing.{net_by, IsMoved, IsSlack, IsDetour}
 use Rattle.diff_flow.proofs.Duality.{at_same, at_other}
 use Rattle.diff_flow.proofs.CutLemmas.{cut_by}
@@ -35,7 +35,7 @@ unit_at n i v inside =
     ]
 
 -- some arc is slack where no numbers meet the steps
-pub not_all_just : (arcs : ℕ) (steps : List Step) (amounts numbers : List ℕ) → ArePaired arcs steps →
+pub not_all_just : (arcs : ℕ) (steps : List ResidualArc) (amounts numbers : List ℕ) → ArePaired arcs steps →
     ((k : ℕ) → k < arcs → height numbers (along_at steps k).from + (along_at steps k).up ≤ height numbers (along_at steps k).to) →
     NoneMeet steps amounts →
     ((k : ℕ) → k < arcs → 0 < amount_at amounts k →
@@ -44,7 +44,7 @@ not_all_just arcs steps amounts numbers paired met none just =
     none (height numbers) (met_where_just arcs steps amounts numbers paired met just)
 
 -- a unit less on an arc
-pub net_unit_less : (arcs : ℕ) (steps : List Step) (amounts : List ℕ) (i v : ℕ) → i < arcs → length amounts ≡ arcs → 0 < get_or amounts i 0 →
+pub net_unit_less : (arcs : ℕ) (steps : List ResidualArc) (amounts : List ℕ) (i v : ℕ) → i < arcs → length amounts ≡ arcs → 0 < get_or amounts i 0 →
     net_by steps arcs (set amounts i (get_or amounts i 0 - 1)) v +ℤ at_node (along_at steps i).to v (pos 1)
     ≡ net_by steps arcs amounts v +ℤ at_node (along_at steps i).from v (pos 1)
 net_unit_less arcs steps amounts i v inside all some =
@@ -56,7 +56,7 @@ net_unit_less arcs steps amounts i v inside all some =
     let from = at_sum (along_at steps i).from v (amount_at (set amounts i (get_or amounts i 0 - 1)) i) 1 (amount_at amounts i) (omega (arith, now, some)) in
     omega (arith, ints, changed, to, from)
 
-module _ (nodes arcs reach : ℕ) (steps : List Step) (amounts numbers : List ℕ) (i : ℕ) (within : AreStepsWithin nodes arcs reach steps)
+module _ (nodes arcs reach : ℕ) (steps : List ResidualArc) (amounts numbers : List ℕ) (i : ℕ) (within : AreStepsWithin nodes arcs reach steps)
     (paired : ArePaired arcs steps) (all : length amounts ≡ arcs) (slack : IsSlack arcs steps amounts numbers i) where
   -- the unit that was taken away can be sent another way
   pub way_open : (best : List ℕ) (tree : List Reached) (places : List ℕ) →
@@ -64,7 +64,7 @@ module _ (nodes arcs reach : ℕ) (steps : List Step) (amounts numbers : List �
       IsTree nodes steps (set amounts i (get_or amounts i 0 - 1)) numbers tree places →
       (entry_at tree 0).node ≡ (along_at steps i).from →
       NoneLacks (set (replicate {A = ℕ} nodes 0) (along_at steps i).to 1) places →
-      ArePassed steps (set amounts i (get_or amounts i 0 - 1)) numbers tree places (length tree) → ⊥
+      AreFollowed steps (set amounts i (get_or amounts i 0 - 1)) numbers tree places (length tree) → ⊥
   way_open best tree places net met are first lacks passed =
       cut_by nodes arcs (λ k. (along_at steps k).from) (λ k. (along_at steps k).to) ends (amount_at less) (amount_at best)
       (λ v. get_or (set (replicate {A = ℕ} nodes 0) (along_at steps i).from 1) v 0)
@@ -184,7 +184,7 @@ pub other_has : (n goal w : ℕ) → (w ≡ goal → ⊥) → get_or (set (repli
 other_has n goal w apart = get_or-set_other (replicate {A = ℕ} n 0) goal w 1 0 apart ∙ zero_at n w
 
 -- where an arc is slack its ends are two nodes
-pub ends_apart : (arcs : ℕ) (steps : List Step) (amounts numbers : List ℕ) (i : ℕ) → IsSlack arcs steps amounts numbers i →
+pub ends_apart : (arcs : ℕ) (steps : List ResidualArc) (amounts numbers : List ℕ) (i : ℕ) → IsSlack arcs steps amounts numbers i →
     (along_at steps i).from ≡ (along_at steps i).to → ⊥
 ends_apart arcs steps amounts numbers i slack same =
     let e : height numbers (along_at steps i).from ≡ height numbers (along_at steps i).to = ap (height numbers) same in

@@ -12,11 +12,11 @@ use Rattle.shape_graphs.specs.Flows.{amount_at, IsSolution, number_at}
 use Rattle.shape_graphs.specs.Paths.{HasCycle}
 use Rattle.shape_graphs.proofs.Laws.{cycle_decided, some_solution, no_cycle_in_solution}
 use Rattle.diff_flow.specs.Tight.{AreLeastTight}
-use Rattle.diff_flow.specs.Walks.{AreLongestWalks, AreWalksOf, AreLeastBefore, IsOneMore}
-use Rattle.diff_flow.specs.declared.steps.Step.{Step}
+use Rattle.diff_flow.specs.Walks.{AreLongestWalkLengths, AreWalkLengthsOf, AreLeastBefore, HasOneMoreArc}
+use Rattle.diff_flow.specs.declared.steps.ResidualArc.{ResidualArc}
 use Rattle.diff_flow.specs.declared.steps.Steps.{Steps}
 use Rattle.diff_flow.specs.inner.Networks.{AreMadeFor}
-use Rattle.diff_flow.specs.inner.Steps.{step_at, no_step, along_at, against_at, AreOneMore, AreStepsWithin, AreStepsOf, IsAlong, IsAgainst, IsOpen, Meets, AreMet}
+use Rattle.diff_flow.specs.inner.Steps.{step_at, no_step, along_at, against_at, AreOneMore, AreStepsWithin, AreStepsOf, IsAlongArc, IsAgainstArc, IsResidual, MeetsStep, AreMet}
 use Rattle.diff_flow.specs.inner.Numbers.{height, AreLeastMet}
 use Rattle.diff_flow.specs.inner.Routing.{AreFirst}
 use Rattle.diff_flow.specs.inner.Lengthening.{MeetsAlong, StayBelow, NoneAbove}
@@ -37,7 +37,7 @@ none_carried : (k : ℕ) → amount_at [] k ≡ 0
 none_carried k = refl
 
 -- the longest walks are the least numbers for the empty flow
-longest_tight : (nodes : ℕ) (arcs : List Arc) (p : ℕ → ℤ) → AreLongestWalks nodes arcs p → AreLeastTight nodes arcs [] p
+longest_tight : (nodes : ℕ) (arcs : List Arc) (p : ℕ → ℤ) → AreLongestWalkLengths nodes arcs p → AreLeastTight nodes arcs [] p
 longest_tight nodes arcs p longest = record {
   tight = record {
     from_zero = longest.from_zero;
@@ -48,7 +48,7 @@ longest_tight nodes arcs p longest = record {
 }
 
 -- solutions meet the steps along all arcs
-module _ (nodes : ℕ) (arcs : List Arc) (steps : List Step) (ends : EndsAreNodes nodes arcs) (are : AreStepsOf arcs steps) where
+module _ (nodes : ℕ) (arcs : List Arc) (steps : List ResidualArc) (ends : EndsAreNodes nodes arcs) (are : AreStepsOf arcs steps) where
   pub solution_met : (p : ℕ → ℤ) → ((v : ℕ) → v < nodes → pos 0 ≤ℤ p v) → IsSolution arcs p → AreMet steps [] (λ v. nat (p v))
   solution_met p from_zero solution = met_where_tight nodes arcs steps [] ends are p (record {
     from_zero = from_zero;
@@ -64,7 +64,7 @@ module _ (nodes : ℕ) (arcs : List Arc) (steps : List Step) (ends : EndsAreNode
 
   -- and are met by no less
   pub longest_met : (m reach : ℕ) (walks : List ℕ) → AreStepsWithin nodes m reach steps → AreArcsWithin arcs → length walks ≡ nodes →
-      AreLongestWalks nodes arcs (λ v. pos (height walks v)) → AreLeastMet nodes steps [] ((nodes - 1) * reach) walks
+      AreLongestWalkLengths nodes arcs (λ v. pos (height walks v)) → AreLeastMet nodes steps [] ((nodes - 1) * reach) walks
   longest_met m reach walks within fits all longest = record {
     low = record {
       one_for_each = all;
@@ -103,24 +103,24 @@ made_kept graph steps steps' walks nodes arcs list reach made = record {
     are = subst (AreStepsOf graph.arcs) (sym list) made.steps_of
 
 -- the steps without those of the last arc
-pub steps_fewer : (arcs : List Arc) (arc : Arc) (steps : List Step) → AreStepsOf (arcs ++ arc ∷ []) steps →
+pub steps_fewer : (arcs : List Arc) (arc : Arc) (steps : List ResidualArc) → AreStepsOf (arcs ++ arc ∷ []) steps →
     AreStepsOf arcs (take (2 * length arcs) steps)
 steps_fewer arcs arc steps are = record {
   two_for_each = length-take-le (2 * length arcs) steps (omega (arith, are.two_for_each, length_push arcs arc));
   along = λ i inside.
-      subst (IsAlong (arc_at arcs i) i) (sym (get_or-take (2 * length arcs) steps (2 * i) no_step (omega (arith, inside))))
-      (subst (λ (a : Arc). IsAlong a i (along_at steps i)) (get_or_append_left arcs (arc ∷ []) no_arc i inside)
+      subst (IsAlongArc (arc_at arcs i) i) (sym (get_or-take (2 * length arcs) steps (2 * i) no_step (omega (arith, inside))))
+      (subst (λ (a : Arc). IsAlongArc a i (along_at steps i)) (get_or_append_left arcs (arc ∷ []) no_arc i inside)
       (are.along i (omega (arith, inside, length_push arcs arc))));
   against = λ i inside.
-      subst (IsAgainst (arc_at arcs i) i) (sym (get_or-take (2 * length arcs) steps (2 * i + 1) no_step (omega (arith, inside))))
-      (subst (λ (a : Arc). IsAgainst a i (against_at steps i)) (get_or_append_left arcs (arc ∷ []) no_arc i inside)
+      subst (IsAgainstArc (arc_at arcs i) i) (sym (get_or-take (2 * length arcs) steps (2 * i + 1) no_step (omega (arith, inside))))
+      (subst (λ (a : Arc). IsAgainstArc a i (against_at steps i)) (get_or_append_left arcs (arc ∷ []) no_arc i inside)
       (are.against i (omega (arith, inside, length_push arcs arc))));
 }
 
 -- what is made for the graph without its last arc
-pub made_fewer : (graph larger : DiffGraph) (steps steps' : Steps) (others walks : List ℕ) → IsOneMore graph larger → AreMadeFor larger steps others →
+pub made_fewer : (graph larger : DiffGraph) (steps steps' : Steps) (others walks : List ℕ) → HasOneMoreArc graph larger → AreMadeFor larger steps others →
     steps'.nodes ≡ steps.nodes → steps'.arcs + 1 ≡ steps.arcs → steps'.list.items ≡ take (2 * steps'.arcs) steps.list.items →
-    AreWalksOf graph walks → AreMadeFor graph steps' walks
+    AreWalkLengthsOf graph walks → AreMadeFor graph steps' walks
 made_fewer graph larger steps steps' others walks one made nodes arcs list is = record {
   no_cycle = no_cycle_in_solution graph.arcs (λ v. pos (height walks v)) graph.within is.longest.solution;
   nodes = nodes_are;
@@ -144,11 +144,11 @@ made_fewer graph larger steps steps' others walks one made nodes arcs list is = 
         (steps_fewer graph.arcs one.last steps.list.items (subst (λ ys. AreStepsOf ys steps.list.items) one.arcs made.steps_of))
 
 -- the last arc
-pub last_is : (before graph : DiffGraph) (one : IsOneMore before graph) (n : ℕ) → n ≡ length before.arcs → arc_at graph.arcs n ≡ one.last
+pub last_is : (before graph : DiffGraph) (one : HasOneMoreArc before graph) (n : ℕ) → n ≡ length before.arcs → arc_at graph.arcs n ≡ one.last
 last_is before graph one n all = ap (λ ys. arc_at ys n) one.arcs ∙ get_or_push before.arcs one.last no_arc n (sym all)
 
 -- the steps of one arc more
-module _ (before graph : DiffGraph) (one : IsOneMore before graph) (old steps : Steps) (walks : List ℕ) (made : AreMadeFor before old walks)
+module _ (before graph : DiffGraph) (one : HasOneMoreArc before graph) (old steps : Steps) (walks : List ℕ) (made : AreMadeFor before old walks)
     (nodes : steps.nodes ≡ old.nodes) (reach : old.reach ≤ steps.reach) (arcs : steps.arcs ≡ old.arcs + 1)
     (more : AreOneMore one.last old.arcs old.list.items steps.list.items) where
   pub steps_are : AreStepsOf graph.arcs steps.list.items
@@ -169,8 +169,8 @@ module _ (before graph : DiffGraph) (one : IsOneMore before graph) (old steps : 
 
   front_met : (others : ℕ → ℕ) → AreMet steps.list.items [] others → AreMet old.list.items [] others
   front_met others met k k_in opens =
-      subst (Meets others) (front_at k k_in)
-      (met k (omega (arith, k_in, longer_list)) (subst (IsOpen []) (sym (front_at k k_in)) opens))
+      subst (MeetsStep others) (front_at k k_in)
+      (met k (omega (arith, k_in, longer_list)) (subst (IsResidual []) (sym (front_at k k_in)) opens))
 
   -- the walks are low
   pub walks_low : (v : ℕ) → v < steps.nodes → height walks v ≤ (steps.nodes - 1) * steps.reach
@@ -191,12 +191,12 @@ module _ (before graph : DiffGraph) (one : IsOneMore before graph) (old steps : 
               let here : k ≡ length old.list.items = omega (arith, behind, first) in
               let is : step_at steps.list.items k ≡ more.there =
               ap (λ ss. step_at ss k) more.grown ∙ first_of_two old.list.items more.there more.back k here in
-              absurd (apart (ap (λ (s : Step). s.from) is ∙ more.along.from ∙ sym begins))
+              absurd (apart (ap (λ (s : ResidualArc). s.from) is ∙ more.along.from ∙ sym begins))
           | inr second ↦
               let here : k ≡ length old.list.items + 1 = omega (arith, k_in, longer_list, second) in
               let is : step_at steps.list.items k ≡ more.back =
               ap (λ ss. step_at ss k) more.grown ∙ second_of_two old.list.items more.there more.back k here in
-              let level : (step_at steps.list.items k).up ≡ 0 = ap (λ (s : Step). s.up) is ∙ more.against.up in
+              let level : (step_at steps.list.items k).up ≡ 0 = ap (λ (s : ResidualArc). s.up) is ∙ more.against.up in
               λ up. absurd (omega (arith, up, level))
         ]
       ]
@@ -234,7 +234,7 @@ module _ (before graph : DiffGraph) (one : IsOneMore before graph) (old steps : 
         met = met_where_just steps.arcs steps.list.items [] longer steps.paired first.met (λ k k_in some. absurd (omega (arith, some, none_carried k)));
       }
 
-      longest : AreLongestWalks graph.nodes graph.arcs (λ v. pos (height longer v))
+      longest : AreLongestWalkLengths graph.nodes graph.arcs (λ v. pos (height longer v))
       longest = are_longest graph.nodes graph.arcs _
           (least_where_met graph.nodes graph.arcs steps.list.items [] graph.ends steps_are graph.within ((steps.nodes - 1) * steps.reach) longer
           (subst (λ n. AreLeastMet n steps.list.items [] ((steps.nodes - 1) * steps.reach) longer) nodes_are least))

@@ -7,14 +7,14 @@ use Rattle.std.proofs.lemmas.List.{append_assoc, get_or-take, length-take-le, ta
 use Rattle.std.proofs.Math.Nat.{mul-le-mul_left}
 use Rattle.shape_graphs.specs.declared.graph.Arc.{Arc}
 use Rattle.shape_graphs.specs.Arcs.{FitsGraph, IsArcWithin}
-use Rattle.diff_flow.specs.declared.steps.Step.{Step}
+use Rattle.diff_flow.specs.declared.steps.ResidualArc.{ResidualArc}
 use Rattle.diff_flow.specs.inner.Steps.{step_at, no_step, along_at, against_at, AreOneMore, IsStepWithin, AreStepsWithin, AreRows, ArePaired, IsBack}
 use Rattle.diff_flow.specs.inner.Growing.{AreRowsMore}
 use Rattle.diff_flow.proofs.SetLemmas.{by_write}
 use Rattle.diff_flow.proofs.StepLemmas.{along_within, against_within, by_direction, before_two, first_of_two, second_of_two, rows_more}
 
 -- the rows of a longer list
-pub rows_longer : (nodes count : ℕ) (steps steps' : List Step) (last before : List ℕ) →
+pub rows_longer : (nodes count : ℕ) (steps steps' : List ResidualArc) (last before : List ℕ) →
     ((k : ℕ) → k < count → step_at steps' k ≡ step_at steps k) → AreRows nodes count steps last before → AreRows nodes count steps' last before
 rows_longer nodes count steps steps' last before same rows = record {
   last_for_each = rows.last_for_each;
@@ -33,10 +33,10 @@ rows_longer nodes count steps steps' last before same rows = record {
 }
   where
     begins : (k : ℕ) → k < count → (step_at steps' k).from ≡ (step_at steps k).from
-    begins k inside = ap (λ (s : Step). s.from) (same k inside)
+    begins k inside = ap (λ (s : ResidualArc). s.from) (same k inside)
 
 -- one step less in its row
-pub rows_less : (nodes k : ℕ) (steps : List Step) (last before : List ℕ) → AreRows nodes (k + 1) steps last before → (step_at steps k).from < nodes →
+pub rows_less : (nodes k : ℕ) (steps : List ResidualArc) (last before : List ℕ) → AreRows nodes (k + 1) steps last before → (step_at steps k).from < nodes →
     AreRows nodes k steps (set last (step_at steps k).from (get_or before k 0)) (take k before)
 rows_less nodes k steps last before rows from_in = record {
   last_for_each = length-set last (step_at steps k).from (get_or before k 0) ∙ rows.last_for_each;
@@ -66,16 +66,16 @@ rows_less nodes k steps last before rows from_in = record {
     f_in = omega (arith, from_in, rows.last_for_each)
 
 -- the rows with the two steps of one arc more
-pub rows_grown : (nodes count from to : ℕ) (steps steps' : List Step) (last before last' before' : List ℕ) (a b : Step) →
+pub rows_grown : (nodes count from to : ℕ) (steps steps' : List ResidualArc) (last before last' before' : List ℕ) (a b : ResidualArc) →
     count ≡ length steps → steps' ≡ steps ++ a ∷ b ∷ [] → a.from ≡ from → b.from ≡ to → from < nodes → to < nodes →
     AreRows nodes count steps last before → AreRowsMore from to last before last' before' → AreRows nodes (length steps') steps' last' before'
 rows_grown nodes count from to steps steps' last before last' before' a b all grown is_from is_to from_in to_in rows more =
     let whole : length steps' ≡ count + 1 + 1 = omega (arith, ap length grown, length-append steps (a ∷ b ∷ []), all) in
     let longer = rows_longer nodes count steps steps' last before
     (λ k inside. ap (λ ss. step_at ss k) grown ∙ before_two steps a b k (omega (arith, inside, all))) rows in
-    let at_first : (step_at steps' count).from ≡ from = ap (λ ss. (step_at ss count).from) grown ∙ ap (λ (s : Step). s.from) (first_of_two steps a b count all) ∙ is_from in
+    let at_first : (step_at steps' count).from ≡ from = ap (λ ss. (step_at ss count).from) grown ∙ ap (λ (s : ResidualArc). s.from) (first_of_two steps a b count all) ∙ is_from in
     let at_second : (step_at steps' (count + 1)).from ≡ to = ap (λ ss. (step_at ss (count + 1)).from) grown
-    ∙ ap (λ (s : Step). s.from) (second_of_two steps a b (count + 1) (omega (arith, all))) ∙ is_to in
+    ∙ ap (λ (s : ResidualArc). s.from) (second_of_two steps a b (count + 1) (omega (arith, all))) ∙ is_to in
     let one = rw at_first at (rows_more nodes count steps' last before longer (subst (λ v. v < nodes) (sym at_first) from_in)) in
     let two = rw at_second at (rows_more nodes (count + 1) steps' (set last from (count + 1)) (before ++ get_or last from 0 ∷ []) one
     (subst (λ v. v < nodes) (sym at_second) to_in)) in
@@ -91,7 +91,7 @@ rows_grown nodes count from to steps steps' last before last' before' a b all gr
     (subst (AreRows nodes (count + 1 + 1) steps' (set (set last from (count + 1)) to (count + 1 + 1))) (sym before_is) two))
 
 -- the rows without the two steps of the last arc
-pub rows_shrunk : (nodes at from to : ℕ) (steps : List Step) (last before : List ℕ) → length steps ≡ at + 2 →
+pub rows_shrunk : (nodes at from to : ℕ) (steps : List ResidualArc) (last before : List ℕ) → length steps ≡ at + 2 →
     (step_at steps at).from ≡ from → (step_at steps (at + 1)).from ≡ to → from < nodes → to < nodes → AreRows nodes (length steps) steps last before →
     AreRows nodes at (take at steps) (set (set last to (get_or before (at + 1) 0)) from (get_or before at 0)) (take at before)
 rows_shrunk nodes at from to steps last before all is_from is_to from_in to_in rows =
@@ -108,7 +108,7 @@ rows_shrunk nodes at from to steps last before all is_from is_to from_in to_in r
     (subst (AreRows nodes at steps (set (set last to (get_or before (at + 1) 0)) from (get_or (take (at + 1) before) at 0))) front two))
 
 -- a step within less is within more
-pub within_more : (nodes arcs arcs' reach reach' : ℕ) (step : Step) → arcs ≤ arcs' → reach ≤ reach' → IsStepWithin nodes arcs reach step →
+pub within_more : (nodes arcs arcs' reach reach' : ℕ) (step : ResidualArc) → arcs ≤ arcs' → reach ≤ reach' → IsStepWithin nodes arcs reach step →
     IsStepWithin nodes arcs' reach' step
 within_more nodes arcs arcs' reach reach' step more higher is = record {
   from = is.from;
@@ -118,7 +118,7 @@ within_more nodes arcs arcs' reach reach' step more higher is = record {
   down = omega (arith, is.down, higher);
 }
 
-module _ (nodes arcs reach reach' : ℕ) (arc : Arc) (steps steps' : List Step) (all : length steps ≡ 2 * arcs) (more : AreOneMore arc arcs steps steps') where
+module _ (nodes arcs reach reach' : ℕ) (arc : Arc) (steps steps' : List ResidualArc) (all : length steps ≡ 2 * arcs) (more : AreOneMore arc arcs steps steps') where
   at_before : (k : ℕ) → k < length steps → step_at steps' k ≡ step_at steps k
   at_before k inside = ap (λ ss. step_at ss k) more.grown ∙ before_two steps more.there more.back k inside
 
@@ -159,9 +159,9 @@ module _ (nodes arcs reach reach' : ℕ) (arc : Arc) (steps steps' : List Step) 
   pub paired_grown : IsArcWithin arc → ArePaired arcs steps → ArePaired (arcs + 1) steps'
   paired_grown fits paired = record {
     two_for_each = two_more;
-    number = λ i i_in. by_last i i_in (λ (s t : Step). s.arc ≡ i) (paired.number i) (λ here. more.along.number ∙ here);
-    up = λ i i_in. by_last i i_in (λ (s t : Step). 0 < s.up) (paired.up i) (λ here. omega (arith, ints, more.along.up, fits.some_least));
-    level = λ i i_in. by_last i i_in (λ (s t : Step). s.down ≡ 0) (paired.level i) (λ here. more.along.down);
+    number = λ i i_in. by_last i i_in (λ (s t : ResidualArc). s.arc ≡ i) (paired.number i) (λ here. more.along.number ∙ here);
+    up = λ i i_in. by_last i i_in (λ (s t : ResidualArc). 0 < s.up) (paired.up i) (λ here. omega (arith, ints, more.along.up, fits.some_least));
+    level = λ i i_in. by_last i i_in (λ (s t : ResidualArc). s.down ≡ 0) (paired.level i) (λ here. more.along.down);
     back = λ i i_in. by_last i i_in IsBack (paired.back i) (λ here. record {
       from = more.against.from ∙ sym more.along.to;
       to = more.against.to ∙ sym more.along.from;
@@ -171,7 +171,7 @@ module _ (nodes arcs reach reach' : ℕ) (arc : Arc) (steps steps' : List Step) 
     });
   }
     where
-      by_last : (i : ℕ) → i < arcs + 1 → (P : Step → Step → Type 0) → (i < arcs → P (along_at steps i) (against_at steps i)) →
+      by_last : (i : ℕ) → i < arcs + 1 → (P : ResidualArc → ResidualArc → Type 0) → (i < arcs → P (along_at steps i) (against_at steps i)) →
           (arcs ≡ i → P more.there more.back) → P (along_at steps' i) (against_at steps' i)
       by_last i i_in P front last = elim (cases_lt i arcs) [
         | inl before ↦ subst (λ s. P s (against_at steps' i)) (sym (at_before (2 * i) (omega (arith, before, all))))
@@ -183,7 +183,7 @@ module _ (nodes arcs reach reach' : ℕ) (arc : Arc) (steps steps' : List Step) 
       ]
 
 -- the steps without those of the last arc
-module _ (nodes arcs reach : ℕ) (steps : List Step) (paired : ArePaired (arcs + 1) steps) where
+module _ (nodes arcs reach : ℕ) (steps : List ResidualArc) (paired : ArePaired (arcs + 1) steps) where
   at_front : (k : ℕ) → k < 2 * arcs → step_at (take (2 * arcs) steps) k ≡ step_at steps k
   at_front k inside = get_or-take (2 * arcs) steps k no_step inside
 
@@ -193,13 +193,13 @@ module _ (nodes arcs reach : ℕ) (steps : List Step) (paired : ArePaired (arcs 
   pub paired_shrunk : ArePaired arcs (take (2 * arcs) steps)
   paired_shrunk = record {
     two_for_each = two_less;
-    number = λ i i_in. by_front i i_in (λ (s t : Step). s.arc ≡ i) (paired.number i (omega (arith, i_in)));
-    up = λ i i_in. by_front i i_in (λ (s t : Step). 0 < s.up) (paired.up i (omega (arith, i_in)));
-    level = λ i i_in. by_front i i_in (λ (s t : Step). s.down ≡ 0) (paired.level i (omega (arith, i_in)));
+    number = λ i i_in. by_front i i_in (λ (s t : ResidualArc). s.arc ≡ i) (paired.number i (omega (arith, i_in)));
+    up = λ i i_in. by_front i i_in (λ (s t : ResidualArc). 0 < s.up) (paired.up i (omega (arith, i_in)));
+    level = λ i i_in. by_front i i_in (λ (s t : ResidualArc). s.down ≡ 0) (paired.level i (omega (arith, i_in)));
     back = λ i i_in. by_front i i_in IsBack (paired.back i (omega (arith, i_in)));
   }
     where
-      by_front : (i : ℕ) → i < arcs → (P : Step → Step → Type 0) → P (along_at steps i) (against_at steps i) →
+      by_front : (i : ℕ) → i < arcs → (P : ResidualArc → ResidualArc → Type 0) → P (along_at steps i) (against_at steps i) →
           P (along_at (take (2 * arcs) steps) i) (against_at (take (2 * arcs) steps) i)
       by_front i i_in P is =
           subst (λ s. P s (against_at (take (2 * arcs) steps) i)) (sym (at_front (2 * i) (omega (arith, i_in))))

@@ -2,31 +2,31 @@
 use Rattle.std.proofs.Common.{◌≡◌, ℕ, suc, ◌+◌, ◌*◌, ◌<◌, ◌≤◌, ◌⊎◌, inl, inr, List, [], ◌∷◌, ◌++◌, length, get_or, set, replicate, refl, sym, ap, subst, ◌∙◌, arith}
 use Rattle.std.proofs.lemmas.Bool.{cases_eq, cases_lt}
 use Rattle.std.proofs.lemmas.List.{length-set, length_push, get_or_append_left, get_or_push, get_or-replicate, length-replicate}
-use Rattle.diff_flow.specs.declared.steps.Step.{Step}
-use Rattle.diff_flow.specs.inner.Steps.{step_at, along_at, AreStepsWithin, AreRows, ArePaired, Meets, AreMet}
-use Rattle.diff_flow.specs.inner.Numbers.{height, IsIn, IsLift, AreListed, Waits, AreLate, NoneLate}
+use Rattle.diff_flow.specs.declared.steps.ResidualArc.{ResidualArc}
+use Rattle.diff_flow.specs.inner.Steps.{step_at, along_at, AreStepsWithin, AreRows, ArePaired, MeetsStep, AreMet}
+use Rattle.diff_flow.specs.inner.Numbers.{height, IsInList, IsLift, AreListed, Waits, AreLate, NoneLate}
 use Rattle.diff_flow.specs.inner.Routing.{AreFirst}
 use Rattle.diff_flow.specs.inner.Lengthening.{MeetsAlong, StayBelow, NoneAbove, ClimbTo, Lengthens, AreLengthened}
 use Rattle.diff_flow.proofs.SetLemmas.{by_write}
 use Rattle.diff_flow.proofs.LabelLemmas.{raise_shortens, in_first, listed_taken}
 
 -- numbers that meet all arcs meet each step along one
-pub along_met : (steps : List Step) (others : ℕ → ℕ) (k : ℕ) → AreMet steps [] others → k < length steps → 0 < (step_at steps k).up →
-    Meets others (step_at steps k)
+pub along_met : (steps : List ResidualArc) (others : ℕ → ℕ) (k : ℕ) → AreMet steps [] others → k < length steps → 0 < (step_at steps k).up →
+    MeetsStep others (step_at steps k)
 along_met steps others k met inside up = met k inside (omega (arith, up))
 
-pub below_then : (nodes : ℕ) (steps : List Step) (a b c : List ℕ) → StayBelow nodes steps a b → StayBelow nodes steps b c → StayBelow nodes steps a c
+pub below_then : (nodes : ℕ) (steps : List ResidualArc) (a b c : List ℕ) → StayBelow nodes steps a b → StayBelow nodes steps b c → StayBelow nodes steps a c
 below_then nodes steps a b c first second others met low = second others met (first others met low)
 
-pub none_then : (nodes : ℕ) (steps : List Step) (limit : ℕ) (a b : List ℕ) → StayBelow nodes steps a b → NoneAbove nodes steps limit b →
+pub none_then : (nodes : ℕ) (steps : List ResidualArc) (limit : ℕ) (a b : List ℕ) → StayBelow nodes steps a b → NoneAbove nodes steps limit b →
     NoneAbove nodes steps limit a
 none_then nodes steps limit a b below none others met low within = none others met (below others met low) within
 
 -- the start is the only one in the queue
-pub lengthens_begun : (nodes : ℕ) (steps : List Step) (limit start : ℕ) (numbers waits queue waits' queue' : List ℕ) →
+pub lengthens_begun : (nodes : ℕ) (steps : List ResidualArc) (limit start : ℕ) (numbers waits queue waits' queue' : List ℕ) →
     length numbers ≡ nodes → ((v : ℕ) → v < nodes → height numbers v ≤ limit) →
     ((k : ℕ) → k < length steps → ((step_at steps k).from ≡ start → ⊥) → MeetsAlong numbers (step_at steps k)) →
-    queue ≡ [] → Waits nodes start waits queue waits' queue' → ((v : ℕ) → IsIn queue' v → (v ≡ start) ⊎ IsIn queue v) → Lengthens nodes steps limit start numbers waits' queue' NoneLate
+    queue ≡ [] → Waits nodes start waits queue waits' queue' → ((v : ℕ) → IsInList queue' v → (v ≡ start) ⊎ IsInList queue v) → Lengthens nodes steps limit start numbers waits' queue' NoneLate
 lengthens_begun nodes steps limit start numbers waits queue waits' queue' all low met none more only = record {
   one_for_each = all;
   inside = low;
@@ -56,7 +56,7 @@ none_waits nodes waits queue flags none = record {
 }
 
 -- what is in a list after a push
-pub out_of_pushed : (xs : List ℕ) (x v : ℕ) → IsIn (xs ++ x ∷ []) v → (v ≡ x) ⊎ IsIn xs v
+pub out_of_pushed : (xs : List ℕ) (x v : ℕ) → IsInList (xs ++ x ∷ []) v → (v ≡ x) ⊎ IsInList xs v
 out_of_pushed xs x v found =
     elim (cases_lt found.0 (length xs)) [
       | inl front ↦ inr (found.0, front, sym (get_or_append_left xs (x ∷ []) 0 found.0 front) ∙ found.2)
@@ -66,11 +66,11 @@ out_of_pushed xs x v found =
     ]
 
 -- what is behind the first of the queue
-in_behind : (queue queue' : List ℕ) (node v : ℕ) → queue ≡ node ∷ queue' → IsIn queue' v → IsIn queue v
-in_behind queue queue' node v taken is = subst (λ xs. IsIn xs v) (sym taken) (suc is.0, omega (arith, is.1), is.2)
+in_behind : (queue queue' : List ℕ) (node v : ℕ) → queue ≡ node ∷ queue' → IsInList queue' v → IsInList queue v
+in_behind queue queue' node v taken is = subst (λ xs. IsInList xs v) (sym taken) (suc is.0, omega (arith, is.1), is.2)
 
 -- the first of the queue is taken, and its steps are late
-pub lengthens_taken : (nodes : ℕ) (steps : List Step) (limit start : ℕ) (numbers waits queue queue' : List ℕ) (node : ℕ) →
+pub lengthens_taken : (nodes : ℕ) (steps : List ResidualArc) (limit start : ℕ) (numbers waits queue queue' : List ℕ) (node : ℕ) →
     queue ≡ node ∷ queue' → Lengthens nodes steps limit start numbers waits queue NoneLate →
     Lengthens nodes steps limit start numbers (set waits node 0) queue' (AreLate steps node (length steps))
 lengthens_taken nodes steps limit start numbers waits queue queue' node taken is = record {
@@ -95,7 +95,7 @@ lengthens_taken nodes steps limit start numbers waits queue queue' node taken is
         omega (arith, low, first.2, is.lists.flags)
 
 -- the last step of the node
-pub lengthens_last : (nodes : ℕ) (steps : List Step) (limit start : ℕ) (numbers waits queue last before : List ℕ) (node : ℕ) →
+pub lengthens_last : (nodes : ℕ) (steps : List ResidualArc) (limit start : ℕ) (numbers waits queue last before : List ℕ) (node : ℕ) →
     AreRows nodes (length steps) steps last before →
     Lengthens nodes steps limit start numbers waits queue (AreLate steps node (length steps)) →
     Lengthens nodes steps limit start numbers waits queue (AreLate steps node (get_or last node 0))
@@ -112,7 +112,7 @@ lengthens_last nodes steps limit start numbers waits queue last before node rows
 }
 
 -- the next step of the node
-pub lengthens_next : (nodes : ℕ) (steps : List Step) (limit start : ℕ) (numbers waits queue last before : List ℕ) (node k : ℕ) →
+pub lengthens_next : (nodes : ℕ) (steps : List ResidualArc) (limit start : ℕ) (numbers waits queue last before : List ℕ) (node k : ℕ) →
     AreRows nodes (length steps) steps last before → k < length steps → (step_at steps k).from ≡ node →
     Lengthens nodes steps limit start numbers waits queue (AreLate steps (step_at steps k).from k) →
     Lengthens nodes steps limit start numbers waits queue (AreLate steps node (get_or before k 0))
@@ -129,7 +129,7 @@ lengthens_next nodes steps limit start numbers waits queue last before node k ro
 }
 
 -- no step is left
-pub lengthens_all : (nodes : ℕ) (steps : List Step) (limit start : ℕ) (numbers waits queue : List ℕ) (node entry : ℕ) → entry ≡ 0 →
+pub lengthens_all : (nodes : ℕ) (steps : List ResidualArc) (limit start : ℕ) (numbers waits queue : List ℕ) (node entry : ℕ) → entry ≡ 0 →
     Lengthens nodes steps limit start numbers waits queue (AreLate steps node entry) →
     Lengthens nodes steps limit start numbers waits queue NoneLate
 lengthens_all nodes steps limit start numbers waits queue node entry none is = record {
@@ -145,7 +145,7 @@ lengthens_all nodes steps limit start numbers waits queue node entry none is = r
 }
 
 -- no node waits
-pub lengthens_done : (nodes arcs reach : ℕ) (steps : List Step) (limit start : ℕ) (numbers waits queue : List ℕ) →
+pub lengthens_done : (nodes arcs reach : ℕ) (steps : List ResidualArc) (limit start : ℕ) (numbers waits queue : List ℕ) →
     AreStepsWithin nodes arcs reach steps → ArePaired arcs steps → length queue ≡ 0 →
     Lengthens nodes steps limit start numbers waits queue NoneLate → AreFirst nodes arcs limit steps numbers
 lengthens_done nodes arcs reach steps limit start numbers waits queue all paired none is = record {
@@ -161,7 +161,7 @@ lengthens_done nodes arcs reach steps limit start numbers waits queue all paired
 }
 
 -- at one step
-module _ (nodes arcs reach : ℕ) (steps : List Step) (limit start : ℕ) (numbers waits queue : List ℕ)
+module _ (nodes arcs reach : ℕ) (steps : List ResidualArc) (limit start : ℕ) (numbers waits queue : List ℕ)
     (all : AreStepsWithin nodes arcs reach steps) (k : ℕ) (inside : k < length steps) (start_in : start < nodes)
     (is : Lengthens nodes steps limit start numbers waits queue (AreLate steps (step_at steps k).from (k + 1)))
     (climb : ClimbTo steps start numbers (step_at steps k).from) where
@@ -227,7 +227,7 @@ module _ (nodes arcs reach : ℕ) (steps : List Step) (limit start : ℕ) (numbe
 
     -- the number at its end is raised, and its node waits
     pub over_raised : (waits' queue' : List ℕ) → most ≤ limit → ((step_at steps k).to ≡ start → ⊥) →
-        Waits nodes (step_at steps k).to waits queue waits' queue' → ((v : ℕ) → IsIn queue' v → (v ≡ (step_at steps k).to) ⊎ IsIn queue v) →
+        Waits nodes (step_at steps k).to waits queue waits' queue' → ((v : ℕ) → IsInList queue' v → (v ≡ (step_at steps k).to) ⊎ IsInList queue v) →
         AreLengthened nodes steps limit start (step_at steps k).from numbers queue new waits' queue' (AreLate steps (step_at steps k).from k)
     over_raised waits' queue' within apart more only = record {
       state = record {
@@ -287,7 +287,7 @@ module _ (nodes arcs reach : ℕ) (steps : List Step) (limit start : ℕ) (numbe
             omega (arith, meets, climbs, start_is, end_is, lifted.just)
 
 -- one step of the node more
-pub lengthened_next : (nodes : ℕ) (steps : List Step) (limit start : ℕ) (last before : List ℕ) (node k : ℕ)
+pub lengthened_next : (nodes : ℕ) (steps : List ResidualArc) (limit start : ℕ) (last before : List ℕ) (node k : ℕ)
     (old queue numbers waits1 queue1 new waits2 queue2 : List ℕ) (late : ℕ → Type 0) →
     AreRows nodes (length steps) steps last before → k < length steps → (step_at steps k).from ≡ node →
     AreLengthened nodes steps limit start node old queue numbers waits1 queue1 late →
@@ -301,7 +301,7 @@ lengthened_next nodes steps limit start last before node k old queue numbers wai
 }
 
 -- all steps of the node are done
-pub lengthened_all : (nodes : ℕ) (steps : List Step) (limit start node entry : ℕ) (old queue new waits' queue' : List ℕ) → entry ≡ 0 →
+pub lengthened_all : (nodes : ℕ) (steps : List ResidualArc) (limit start node entry : ℕ) (old queue new waits' queue' : List ℕ) → entry ≡ 0 →
     AreLengthened nodes steps limit start node old queue new waits' queue' (AreLate steps node entry) →
     AreLengthened nodes steps limit start node old queue new waits' queue' NoneLate
 lengthened_all nodes steps limit start node entry old queue new waits' queue' none is = record {
@@ -312,7 +312,7 @@ lengthened_all nodes steps limit start node entry old queue new waits' queue' no
 }
 
 -- none of the node is done yet
-pub lengthened_first : (nodes : ℕ) (steps : List Step) (limit start node : ℕ) (numbers waits queue : List ℕ) (late : ℕ → Type 0) →
+pub lengthened_first : (nodes : ℕ) (steps : List ResidualArc) (limit start node : ℕ) (numbers waits queue : List ℕ) (late : ℕ → Type 0) →
     Lengthens nodes steps limit start numbers waits queue late → ClimbTo steps start numbers node →
     AreLengthened nodes steps limit start node numbers queue numbers waits queue late
 lengthened_first nodes steps limit start node numbers waits queue late is climb = record {

@@ -8,7 +8,7 @@ pub mod DetourLemmas
 pub mod NearLemmas
 pub mod SignedLemmas
 pub mod Duality
-pub mod Meets
+pub mod LesserSolutions
 pub mod Gaps
 pub mod FlowLemmas
 pub mod SurplusLemmas

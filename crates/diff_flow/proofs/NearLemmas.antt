@@ -10,7 +10,7 @@ use Rattle.shape_graphs.specs.declared.graph.Arc.{Arc}
 use Rattle.shape_graphs.specs.declared.graph.TheConstants.{MOST_ARCS}
 use Rattle.shape_graphs.specs.Arcs.{arc_at, EndsAreNodes, AreArcsWithin}
 use Rattle.shape_graphs.specs.Flows.{amount_at, Balances, bound_of, IsSolution, length_over, over}
-use Rattle.diff_flow.specs.declared.steps.Step.{Step}
+use Rattle.diff_flow.specs.declared.steps.ResidualArc.{ResidualArc}
 use Rattle.diff_flow.specs.Amounts.{IsFlowOn}
 use Rattle.diff_flow.specs.inner.Steps.{along_at, AreStepsOf, AreMet}
 use Rattle.diff_flow.specs.inner.Numbers.{height}
@@ -40,7 +40,7 @@ less_sum f g n i inside each less =
     strict : (a b : ℤ) → a ≤ℤ b → (a ≡ b → ⊥) → (a +ℤ pos 1) ≤ℤ b
     strict a b le apart = omega (arith, ints, le, apart)
 
-module _ (nodes : ℕ) (arcs : List Arc) (steps : List Step) (given near best numbers : List ℕ) (i : ℕ) (ends : EndsAreNodes nodes arcs)
+module _ (nodes : ℕ) (arcs : List Arc) (steps : List ResidualArc) (given near best numbers : List ℕ) (i : ℕ) (ends : EndsAreNodes nodes arcs)
     (within : AreArcsWithin arcs) (few : length arcs ≤ MOST_ARCS) (are : AreStepsOf arcs steps) (balances : Balances nodes arcs given)
     (slack : IsSlack (length arcs) steps given numbers i) (is : IsDetour nodes (length arcs) steps numbers given near i)
     (met : AreMet steps best (height numbers)) where
@@ -143,7 +143,7 @@ module _ (nodes : ℕ) (arcs : List Arc) (steps : List Step) (given near best nu
   is_near = record { flow = near_flow; balances = near_balances; higher = near_higher; most = near_most }
 
 -- what balances as the pulls has one net
-pub balances_alike : (nodes : ℕ) (arcs : List Arc) (steps : List Step) (amounts others : List ℕ) → AreStepsOf arcs steps →
+pub balances_alike : (nodes : ℕ) (arcs : List Arc) (steps : List ResidualArc) (amounts others : List ℕ) → AreStepsOf arcs steps →
     Balances nodes arcs amounts → Balances nodes arcs others →
     (v : ℕ) → v < nodes → net_by steps (length arcs) others v ≡ net_by steps (length arcs) amounts v
 balances_alike nodes arcs steps amounts others are balances balance v inside =

@@ -6,25 +6,25 @@ use Rattle.std.proofs.lemmas.List.{length-set}
 use Rattle.std.proofs.lemmas.List.Sums.{sum_by-set}
 use Rattle.compact_types.specs.Sums.{sum_to}
 use Rattle.shape_graphs.specs.Flows.{amount_at}
-use Rattle.diff_flow.specs.declared.steps.Step.{Step}
-use Rattle.diff_flow.specs.inner.Steps.{step_at, along_at, AreStepsWithin, ArePaired, IsOpen, AreMet}
+use Rattle.diff_flow.specs.declared.steps.ResidualArc.{ResidualArc}
+use Rattle.diff_flow.specs.inner.Steps.{step_at, along_at, AreStepsWithin, ArePaired, IsResidual, AreMet}
 use Rattle.diff_flow.specs.inner.Numbers.{height}
 use Rattle.diff_flow.specs.inner.Search.{AreFit, IsTrap}
-use Rattle.diff_flow.specs.inner.Routing.{IsMoved, IsRouting, IsKept}
+use Rattle.diff_flow.specs.inner.Routing.{IsMoved, IsRouting, KeepsBalance}
 use Rattle.diff_flow.proofs.SetLemmas.{by_write}
 use Rattle.diff_flow.proofs.CutLemmas.{cut, carried}
 use Rattle.diff_flow.proofs.LowLemmas.{sum_low, list_sum}
 use Rattle.diff_flow.proofs.RouteLemmas.{kept_moved, against_number}
 
 -- along an arc the numbers rise
-pub rises_along : (arcs : ℕ) (steps : List Step) (amounts : List ℕ) (h : ℕ → ℕ) → ArePaired arcs steps → AreMet steps amounts h →
+pub rises_along : (arcs : ℕ) (steps : List ResidualArc) (amounts : List ℕ) (h : ℕ → ℕ) → ArePaired arcs steps → AreMet steps amounts h →
     (i : ℕ) → i < arcs → h (along_at steps i).from + (along_at steps i).up ≤ h (along_at steps i).to
 rises_along arcs steps amounts h paired met i inside =
     let some = paired.up i inside in
     let is = met (2 * i) (omega (arith, paired.two_for_each)) (omega (arith, some)) in
     omega (arith, is, paired.level i inside)
 
-module _ (nodes arcs reach limit : ℕ) (steps : List Step) (amounts numbers over want : List ℕ)
+module _ (nodes arcs reach limit : ℕ) (steps : List ResidualArc) (amounts numbers over want : List ℕ)
     (within : AreStepsWithin nodes arcs reach steps) (paired : ArePaired arcs steps)
     (routing : IsRouting nodes arcs limit steps amounts numbers over want) where
   ends : (i : ℕ) → i < arcs → ((along_at steps i).from < nodes) × ((along_at steps i).to < nodes)
@@ -59,7 +59,7 @@ module _ (nodes arcs reach limit : ℕ) (steps : List Step) (amounts numbers ove
   module _ (start goal amount : ℕ) (amounts' numbers' : List ℕ) (fit : AreFit nodes limit steps amounts numbers' want)
       (moved : IsMoved nodes arcs steps amount start goal numbers' amounts amounts') (start_in : start < nodes) (goal_in : goal < nodes)
       (start_some : amount ≤ get_or over start 0) (goal_some : amount ≤ get_or want goal 0) where
-    pub round_kept : IsKept nodes arcs steps amounts over want amounts' (set over start (get_or over start 0 - amount))
+    pub round_kept : KeepsBalance nodes arcs steps amounts over want amounts' (set over start (get_or over start 0 - amount))
         (set want goal (get_or want goal 0 - amount))
     round_kept given spread =
         kept_moved nodes arcs steps amount start goal numbers' given amounts amounts' over want moved
@@ -87,7 +87,7 @@ module _ (nodes arcs reach limit : ℕ) (steps : List Step) (amounts numbers ove
         none_at : (k : ℕ) → (step_at steps k).up + amount_at amounts (step_at steps k).arc ≤ 0 → amount_at amounts (step_at steps k).arc ≡ 0
         none_at k closed = omega arith
 
-        some_at : (k : ℕ) → (step_at steps k).up ≡ 0 → IsOpen amounts' (step_at steps k) → 0 < amount_at amounts' (step_at steps k).arc
+        some_at : (k : ℕ) → (step_at steps k).up ≡ 0 → IsResidual amounts' (step_at steps k) → 0 < amount_at amounts' (step_at steps k).arc
         some_at k up opens = omega (arith, up, opens)
 
     pub round_done : IsRouting nodes arcs limit steps amounts' numbers' (set over start (get_or over start 0 - amount))

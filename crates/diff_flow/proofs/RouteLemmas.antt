@@ -6,11 +6,11 @@ use Rattle.std.proofs.lemmas.Bool.{cases_eq, cases_lt}
 use Rattle.std.proofs.lemmas.List.{get_or-set_same, get_or-set_other}
 use Rattle.compact_types.proofs.Laws.{sum_to-changed}
 use Rattle.shape_graphs.specs.Flows.{amount_at, at_node}
-use Rattle.diff_flow.specs.declared.steps.Step.{Step}
+use Rattle.diff_flow.specs.declared.steps.ResidualArc.{ResidualArc}
 use Rattle.diff_flow.specs.declared.tree.Reached.{Reached}
 use Rattle.diff_flow.specs.inner.Steps.{step_at, along_at, ArePaired}
 use Rattle.diff_flow.specs.inner.Numbers.{height}
-use Rattle.diff_flow.specs.inner.Search.{entry_at, step_of, IsTree}
+use Rattle.diff_flow.specs.inner.Search.{entry_at, step_of_entry, IsTree}
 use Rattle.diff_flow.specs.inner.Routing.{net_by, IsSpread, IsSent, IsMoved}
 use Rattle.diff_flow.proofs.Duality.{at_same, at_other}
 use Rattle.diff_flow.proofs.FlowLemmas.{at_cases}
@@ -48,7 +48,7 @@ set_less xs i v a inside some =
     ]
 
 -- what comes in at a node where one amount is another
-pub net_changed : (arcs : ℕ) (steps : List Step) (amounts amounts' : List ℕ) (i v : ℕ) → i < arcs →
+pub net_changed : (arcs : ℕ) (steps : List ResidualArc) (amounts amounts' : List ℕ) (i v : ℕ) → i < arcs →
     ((j : ℕ) → (j ≡ i → ⊥) → amount_at amounts' j ≡ amount_at amounts j) →
     net_by steps arcs amounts' v +ℤ (at_node (along_at steps i).to v (pos (amount_at amounts i)) -ℤ at_node (along_at steps i).from v (pos (amount_at amounts i)))
     ≡ net_by steps arcs amounts v +ℤ (at_node (along_at steps i).to v (pos (amount_at amounts' i)) -ℤ at_node (along_at steps i).from v (pos (amount_at amounts' i)))
@@ -63,7 +63,7 @@ pub at_sum : (a b x y z : ℕ) → z ≡ x + y → at_node a b (pos z) ≡ at_no
 at_sum a b x y z e = at_cases a b (λ f. f (pos z) ≡ f (pos x) +ℤ f (pos y)) (omega (arith, ints, e)) (omega (arith, ints))
 
 -- an amount that is dropped is in excess where its arc begins, and lacking where it ends
-pub kept_dropped : (nodes arcs : ℕ) (steps : List Step) (given amounts over want : List ℕ) (i from to : ℕ) →
+pub kept_dropped : (nodes arcs : ℕ) (steps : List ResidualArc) (given amounts over want : List ℕ) (i from to : ℕ) →
     i < arcs → length amounts ≡ arcs → from ≡ (along_at steps i).from → to ≡ (along_at steps i).to → from < length over → to < length want →
     IsSpread nodes arcs steps given amounts over want →
     IsSpread nodes arcs steps given (set amounts i 0) (set over from (get_or over from 0 + get_or amounts i 0))
@@ -85,7 +85,7 @@ kept_dropped nodes arcs steps given amounts over want i from to inside all is_fr
     omega (arith, ints, before, changed, none_to, none_from, more_over, more_want, at_from, at_to)
 
 -- an amount that is sent is less in excess where it starts, and lacks less where it arrives
-pub kept_moved : (nodes arcs : ℕ) (steps : List Step) (amount start goal : ℕ) (numbers given amounts amounts' over want : List ℕ) →
+pub kept_moved : (nodes arcs : ℕ) (steps : List ResidualArc) (amount start goal : ℕ) (numbers given amounts amounts' over want : List ℕ) →
     IsMoved nodes arcs steps amount start goal numbers amounts amounts' →
     start < length over → amount ≤ get_or over start 0 → goal < length want → amount ≤ get_or want goal 0 →
     IsSpread nodes arcs steps given amounts over want →
@@ -98,7 +98,7 @@ kept_moved nodes arcs steps amount start goal numbers given amounts amounts' ove
     omega (arith, ints, before, net, less_over, less_want)
 
 -- steps by their direction
-module _ (arcs : ℕ) (steps : List Step) (paired : ArePaired arcs steps) where
+module _ (arcs : ℕ) (steps : List ResidualArc) (paired : ArePaired arcs steps) where
   -- which step it is
   pub by_arc : (k : ℕ) → k < length steps → (i : ℕ) × (i < arcs) × ((2 * i ≡ k) ⊎ (2 * i + 1 ≡ k))
   by_arc k inside =
@@ -182,7 +182,7 @@ module _ (arcs : ℕ) (steps : List Step) (paired : ArePaired arcs steps) where
       ]
 
 -- The amount has come from the goal to the entry; the steps from there to the start are still to come.
-pub record IsSending (nodes arcs : ℕ) (steps : List Step) (amount : ℕ) (numbers : List ℕ) (tree : List Reached) (old amounts : List ℕ)
+pub record IsSending (nodes arcs : ℕ) (steps : List ResidualArc) (amount : ℕ) (numbers : List ℕ) (tree : List Reached) (old amounts : List ℕ)
     (at : ℕ) : Type 0 where
   pub here : at < length tree
   pub room : amount ≤ (entry_at tree at).room
@@ -192,12 +192,12 @@ pub record IsSending (nodes arcs : ℕ) (steps : List Step) (amount : ℕ) (numb
   pub tight : (i : ℕ) → i < arcs → amount_at old i < amount_at amounts i →
       height numbers (along_at steps i).to ≡ height numbers (along_at steps i).from + (along_at steps i).up
   pub most : (i : ℕ) → i < arcs → amount_at amounts i ≤ amount_at old i + amount
-  pub fresh : (j : ℕ) → 0 < j → j ≤ at → 0 < (step_of steps tree j).up →
-      amount_at amounts (step_of steps tree j).arc ≤ amount_at old (step_of steps tree j).arc
-  pub full : (j : ℕ) → 0 < j → j ≤ at → (step_of steps tree j).up ≡ 0 → amount ≤ (entry_at tree j).room →
-      amount ≤ amount_at amounts (step_of steps tree j).arc
+  pub fresh : (j : ℕ) → 0 < j → j ≤ at → 0 < (step_of_entry steps tree j).up →
+      amount_at amounts (step_of_entry steps tree j).arc ≤ amount_at old (step_of_entry steps tree j).arc
+  pub full : (j : ℕ) → 0 < j → j ≤ at → (step_of_entry steps tree j).up ≡ 0 → amount ≤ (entry_at tree j).room →
+      amount ≤ amount_at amounts (step_of_entry steps tree j).arc
 
-module _ (nodes arcs : ℕ) (steps : List Step) (amount : ℕ) (numbers : List ℕ) (tree : List Reached) (places old : List ℕ)
+module _ (nodes arcs : ℕ) (steps : List ResidualArc) (amount : ℕ) (numbers : List ℕ) (tree : List Reached) (places old : List ℕ)
     (paired : ArePaired arcs steps) (are : IsTree nodes steps old numbers tree places) where
   pub sending_first : amount ≤ (entry_at tree (length tree - 1)).room →
       IsSending nodes arcs steps amount numbers tree old old (length tree - 1)
@@ -225,7 +225,7 @@ module _ (nodes arcs : ℕ) (steps : List Step) (amount : ℕ) (numbers : List �
       omega (arith, p, q, e, less)
 
   pub sending_next : (at : ℕ) (amounts amounts' : List ℕ) → 0 < at → IsSending nodes arcs steps amount numbers tree old amounts at →
-      IsSent (step_of steps tree at) amount amounts amounts' →
+      IsSent (step_of_entry steps tree at) amount amounts amounts' →
       IsSending nodes arcs steps amount numbers tree old amounts' (entry_at tree at).parent
   sending_next at amounts amounts' some sending sent = record {
     here = omega (arith, is.earlier, sending.here);
@@ -234,14 +234,14 @@ module _ (nodes arcs : ℕ) (steps : List Step) (amount : ℕ) (numbers : List �
     net = λ v v_in.
         let before = sending.net v v_in in
         let moved = net_sent arcs steps paired (entry_at tree at).step amount v amounts amounts' is.inside sent in
-        let from : at_node (step_of steps tree at).from v (pos amount) ≡ at_node (entry_at tree (entry_at tree at).parent).node v (pos amount) =
+        let from : at_node (step_of_entry steps tree at).from v (pos amount) ≡ at_node (entry_at tree (entry_at tree at).parent).node v (pos amount) =
         ap (λ w. at_node w v (pos amount)) is.from in
-        let to : at_node (step_of steps tree at).to v (pos amount) ≡ at_node (entry_at tree at).node v (pos amount) =
+        let to : at_node (step_of_entry steps tree at).to v (pos amount) ≡ at_node (entry_at tree at).node v (pos amount) =
         ap (λ w. at_node w v (pos amount)) is.to in
         omega (arith, ints, before, moved, from, to);
     tight = λ i i_in more.
-        elim (cases_eq i (step_of steps tree at).arc) [
-          | inl here ↦ elim (cases_lt 0 (step_of steps tree at).up) [
+        elim (cases_eq i (step_of_entry steps tree at).arc) [
+          | inl here ↦ elim (cases_lt 0 (step_of_entry steps tree at).up) [
             | inl up ↦
                 let along = along_number arcs steps paired (entry_at tree at).step is.inside up in
                 let number : (entry_at tree at).step ≡ 2 * i = along.2 ∙ ap (λ j. 2 * j) (sym along.3 ∙ sym here) in
@@ -254,8 +254,8 @@ module _ (nodes arcs : ℕ) (steps : List Step) (amount : ℕ) (numbers : List �
           | inr apart ↦ sending.tight i i_in (omega (arith, sent.others i apart, more))
         ];
     most = λ i i_in.
-        elim (cases_eq i (step_of steps tree at).arc) [
-          | inl here ↦ elim (cases_lt 0 (step_of steps tree at).up) [
+        elim (cases_eq i (step_of_entry steps tree at).arc) [
+          | inl here ↦ elim (cases_lt 0 (step_of_entry steps tree at).up) [
             | inl up ↦
                 let grown : amount_at amounts' i ≡ amount_at amounts i + amount = rw (← here) at (sent.along up) in
                 let was : amount_at amounts i ≤ amount_at old i = rw (← here) at (sending.fresh at some (omega arith) up) in
@@ -268,29 +268,29 @@ module _ (nodes arcs : ℕ) (steps : List Step) (amount : ℕ) (numbers : List �
         ];
     fresh = λ j j_some j_before j_up.
         let was = sending.fresh j j_some (omega (arith, is.earlier, j_before)) j_up in
-        elim (cases_eq (step_of steps tree j).arc (step_of steps tree at).arc) [
-          | inl here ↦ elim (cases_lt 0 (step_of steps tree at).up) [
+        elim (cases_eq (step_of_entry steps tree j).arc (step_of_entry steps tree at).arc) [
+          | inl here ↦ elim (cases_lt 0 (step_of_entry steps tree at).up) [
             | inl up ↦ absurd (other_step j at (omega (arith, is.earlier, j_before)) sending.here j_some
                 (one_along arcs steps paired _ _ (each_in j j_some (omega (arith, is.earlier, j_before, sending.here))) is.inside j_up up here))
             | inr down ↦
-                let less : amount_at amounts' (step_of steps tree j).arc + amount ≡ amount_at amounts (step_of steps tree j).arc =
+                let less : amount_at amounts' (step_of_entry steps tree j).arc + amount ≡ amount_at amounts (step_of_entry steps tree j).arc =
                 subst (λ i. amount_at amounts' i + amount ≡ amount_at amounts i) (sym here) (sent.against (omega arith)) in
                 omega (arith, less, was)
           ]
-          | inr apart ↦ omega (arith, sent.others (step_of steps tree j).arc apart, was)
+          | inr apart ↦ omega (arith, sent.others (step_of_entry steps tree j).arc apart, was)
         ];
     full = λ j j_some j_before j_down within.
         let was = sending.full j j_some (omega (arith, is.earlier, j_before)) j_down within in
-        elim (cases_eq (step_of steps tree j).arc (step_of steps tree at).arc) [
-          | inl here ↦ elim (cases_lt 0 (step_of steps tree at).up) [
+        elim (cases_eq (step_of_entry steps tree j).arc (step_of_entry steps tree at).arc) [
+          | inl here ↦ elim (cases_lt 0 (step_of_entry steps tree at).up) [
             | inl up ↦
-                let more : amount_at amounts' (step_of steps tree j).arc ≡ amount_at amounts (step_of steps tree j).arc + amount =
+                let more : amount_at amounts' (step_of_entry steps tree j).arc ≡ amount_at amounts (step_of_entry steps tree j).arc + amount =
                 subst (λ i. amount_at amounts' i ≡ amount_at amounts i + amount) (sym here) (sent.along up) in
                 omega (arith, more)
             | inr down ↦ absurd (other_step j at (omega (arith, is.earlier, j_before)) sending.here j_some
                 (one_against arcs steps paired _ _ (each_in j j_some (omega (arith, is.earlier, j_before, sending.here))) is.inside j_down (omega arith) here))
           ]
-          | inr apart ↦ omega (arith, sent.others (step_of steps tree j).arc apart, was)
+          | inr apart ↦ omega (arith, sent.others (step_of_entry steps tree j).arc apart, was)
         ];
   }
     where

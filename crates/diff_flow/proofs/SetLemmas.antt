@@ -4,7 +4,7 @@ use Rattle.std.proofs.lemmas.Bool.{cases_eq, cases_lt}
 use Rattle.std.proofs.lemmas.List.{get_or-set_same, get_or-set_other, length_push, get_or_append_left, get_or_push, get_or-drop, length-drop, get_or_default, take_at}
 use Rattle.std.proofs.lemmas.List.Sums.{sum_by-le}
 use Rattle.std.proofs.lemmas.Bool.{false≢true}
-use Rattle.diff_flow.specs.inner.Numbers.{IsIn}
+use Rattle.diff_flow.specs.inner.Numbers.{IsInList}
 
 -- what a list has after a write, by cases
 pub by_write : (P : ℕ → Type 0) (xs : List ℕ) (i v x : ℕ) → i < length xs → (v ≡ i → P x) → ((v ≡ i → ⊥) → P (get_or xs v 0)) →
@@ -25,18 +25,18 @@ by_push P xs v x inside last before =
           subst P (sym (get_or_push xs x 0 v (sym here))) (last here)
     ]
 
-pub in_pushed : (xs : List ℕ) (x v : ℕ) → IsIn xs v → IsIn (xs ++ x ∷ []) v
+pub in_pushed : (xs : List ℕ) (x v : ℕ) → IsInList xs v → IsInList (xs ++ x ∷ []) v
 in_pushed xs x v found =
     (found.0, omega (arith, length_push xs x, found.1), get_or_append_left xs (x ∷ []) 0 found.0 found.1 ∙ found.2)
 
-pub in_last : (xs : List ℕ) (x : ℕ) → IsIn (xs ++ x ∷ []) x
+pub in_last : (xs : List ℕ) (x : ℕ) → IsInList (xs ++ x ∷ []) x
 in_last xs x = (length xs, omega (arith, length_push xs x), get_or_push xs x 0 (length xs) refl)
 
 -- what is in a list is its first or in the rest
-pub in_rest : (xs : List ℕ) (v x : ℕ) → x ≡ get_or xs 0 0 → IsIn xs v → (v ≡ x → ⊥) → IsIn (drop 1 xs) v
+pub in_rest : (xs : List ℕ) (v x : ℕ) → x ≡ get_or xs 0 0 → IsInList xs v → (v ≡ x → ⊥) → IsInList (drop 1 xs) v
 in_rest xs v x first found other = by_place found.0 found.1 found.2
   where
-    by_place : (k : ℕ) → k < length xs → get_or xs k 0 ≡ v → IsIn (drop 1 xs) v
+    by_place : (k : ℕ) → k < length xs → get_or xs k 0 ≡ v → IsInList (drop 1 xs) v
     by_place zero inside is = absurd (other (sym (first ∙ is)))
     by_place (suc k) inside is =
         let e : 1 + k ≡ suc k = omega arith in

@@ -6,8 +6,8 @@ use Rattle.std.proofs.lemmas.Bool.{cases_lt}
 use Rattle.std.proofs.lemmas.List.{length-set, length_push, length-append, get_or_append_left, get_or-append_right, get_or_push, get_or-replicate, length-replicate}
 use Rattle.shape_graphs.specs.declared.graph.Arc.{Arc}
 use Rattle.shape_graphs.specs.Arcs.{arc_at, no_arc, EndsAreNodes}
-use Rattle.diff_flow.specs.declared.steps.Step.{Step}
-use Rattle.diff_flow.specs.inner.Steps.{step_at, no_step, along_at, against_at, AreOneMore, IsStepWithin, AreStepsWithin, AreRows, IsAlong, IsAgainst, AreStepsOf}
+use Rattle.diff_flow.specs.declared.steps.ResidualArc.{ResidualArc}
+use Rattle.diff_flow.specs.inner.Steps.{step_at, no_step, along_at, against_at, AreOneMore, IsStepWithin, AreStepsWithin, AreRows, IsAlongArc, IsAgainstArc, AreStepsOf}
 use Rattle.diff_flow.proofs.SetLemmas.{by_write, by_push}
 
 -- a number is twice another, or one more
@@ -30,47 +30,47 @@ by_direction P m k inside front back =
     ]
 
 -- the list with two more at the end
-pub before_two : (steps : List Step) (a b : Step) (k : ℕ) → k < length steps → step_at (steps ++ a ∷ b ∷ []) k ≡ step_at steps k
+pub before_two : (steps : List ResidualArc) (a b : ResidualArc) (k : ℕ) → k < length steps → step_at (steps ++ a ∷ b ∷ []) k ≡ step_at steps k
 before_two steps a b k inside = get_or_append_left steps (a ∷ b ∷ []) no_step k inside
 
-pub first_of_two : (steps : List Step) (a b : Step) (k : ℕ) → k ≡ length steps → step_at (steps ++ a ∷ b ∷ []) k ≡ a
+pub first_of_two : (steps : List ResidualArc) (a b : ResidualArc) (k : ℕ) → k ≡ length steps → step_at (steps ++ a ∷ b ∷ []) k ≡ a
 first_of_two steps a b k here =
     let place : k - length steps ≡ 0 = omega (arith, here) in
     get_or-append_right steps (a ∷ b ∷ []) (length steps) k no_step refl (omega (arith, here)) ∙ ap (step_at (a ∷ b ∷ [])) place
 
-pub second_of_two : (steps : List Step) (a b : Step) (k : ℕ) → k ≡ length steps + 1 → step_at (steps ++ a ∷ b ∷ []) k ≡ b
+pub second_of_two : (steps : List ResidualArc) (a b : ResidualArc) (k : ℕ) → k ≡ length steps + 1 → step_at (steps ++ a ∷ b ∷ []) k ≡ b
 second_of_two steps a b k here =
     let place : k - length steps ≡ 1 = omega (arith, here) in
     get_or-append_right steps (a ∷ b ∷ []) (length steps) k no_step refl (omega (arith, here)) ∙ ap (step_at (a ∷ b ∷ [])) place
 
 -- the steps of the arcs with one arc more
-pub steps_more : (arcs : List Arc) (arc : Arc) (i : ℕ) (steps steps' : List Step) → i ≡ length arcs → AreStepsOf arcs steps →
+pub steps_more : (arcs : List Arc) (arc : Arc) (i : ℕ) (steps steps' : List ResidualArc) → i ≡ length arcs → AreStepsOf arcs steps →
     AreOneMore arc i steps steps' → AreStepsOf (arcs ++ arc ∷ []) steps'
 steps_more arcs arc i steps steps' last are more = subst (AreStepsOf (arcs ++ arc ∷ [])) (sym more.grown) (record {
   two_for_each = omega (arith, are.two_for_each, length_push arcs arc, length-append steps (more.there ∷ more.back ∷ []));
   along = λ k inside. elim (cases_lt k (length arcs)) [
-    | inl front ↦ subst (λ (a : Arc). IsAlong a k (along_at (steps ++ more.there ∷ more.back ∷ []) k)) (sym (get_or_append_left arcs (arc ∷ []) no_arc k front))
-        (subst (IsAlong (arc_at arcs k) k) (sym (before_two steps more.there more.back (2 * k) (omega (arith, front, are.two_for_each)))) (are.along k front))
+    | inl front ↦ subst (λ (a : Arc). IsAlongArc a k (along_at (steps ++ more.there ∷ more.back ∷ []) k)) (sym (get_or_append_left arcs (arc ∷ []) no_arc k front))
+        (subst (IsAlongArc (arc_at arcs k) k) (sym (before_two steps more.there more.back (2 * k) (omega (arith, front, are.two_for_each)))) (are.along k front))
     | inr back ↦
         let here : k ≡ length arcs = omega (arith, back, inside, length_push arcs arc) in
         let is : i ≡ k = last ∙ sym here in
-        subst (λ (a : Arc). IsAlong a k (along_at (steps ++ more.there ∷ more.back ∷ []) k)) (sym (get_or_push arcs arc no_arc k (sym here)))
-        (subst (IsAlong arc k) (sym (first_of_two steps more.there more.back (2 * k) (omega (arith, here, are.two_for_each))))
-        (subst (λ j. IsAlong arc j more.there) is more.along))
+        subst (λ (a : Arc). IsAlongArc a k (along_at (steps ++ more.there ∷ more.back ∷ []) k)) (sym (get_or_push arcs arc no_arc k (sym here)))
+        (subst (IsAlongArc arc k) (sym (first_of_two steps more.there more.back (2 * k) (omega (arith, here, are.two_for_each))))
+        (subst (λ j. IsAlongArc arc j more.there) is more.along))
   ];
   against = λ k inside. elim (cases_lt k (length arcs)) [
-    | inl front ↦ subst (λ (a : Arc). IsAgainst a k (against_at (steps ++ more.there ∷ more.back ∷ []) k)) (sym (get_or_append_left arcs (arc ∷ []) no_arc k front))
-        (subst (IsAgainst (arc_at arcs k) k) (sym (before_two steps more.there more.back (2 * k + 1) (omega (arith, front, are.two_for_each)))) (are.against k front))
+    | inl front ↦ subst (λ (a : Arc). IsAgainstArc a k (against_at (steps ++ more.there ∷ more.back ∷ []) k)) (sym (get_or_append_left arcs (arc ∷ []) no_arc k front))
+        (subst (IsAgainstArc (arc_at arcs k) k) (sym (before_two steps more.there more.back (2 * k + 1) (omega (arith, front, are.two_for_each)))) (are.against k front))
     | inr back ↦
         let here : k ≡ length arcs = omega (arith, back, inside, length_push arcs arc) in
         let is : i ≡ k = last ∙ sym here in
-        subst (λ (a : Arc). IsAgainst a k (against_at (steps ++ more.there ∷ more.back ∷ []) k)) (sym (get_or_push arcs arc no_arc k (sym here)))
-        (subst (IsAgainst arc k) (sym (second_of_two steps more.there more.back (2 * k + 1) (omega (arith, here, are.two_for_each))))
-        (subst (λ j. IsAgainst arc j more.back) is more.against))
+        subst (λ (a : Arc). IsAgainstArc a k (against_at (steps ++ more.there ∷ more.back ∷ []) k)) (sym (get_or_push arcs arc no_arc k (sym here)))
+        (subst (IsAgainstArc arc k) (sym (second_of_two steps more.there more.back (2 * k + 1) (omega (arith, here, are.two_for_each))))
+        (subst (λ j. IsAgainstArc arc j more.back) is more.against))
   ];
 })
 
-pub along_within : (arc : Arc) (nodes arcs reach i : ℕ) (step : Step) → IsAlong arc i step → arc.from < nodes → arc.to < nodes →
+pub along_within : (arc : Arc) (nodes arcs reach i : ℕ) (step : ResidualArc) → IsAlongArc arc i step → arc.from < nodes → arc.to < nodes →
     i < arcs → arc.least ≤ℤ pos reach → IsStepWithin nodes arcs reach step
 along_within arc nodes arcs reach i step is from to inside low = record {
   from = omega (arith, is.from);
@@ -80,7 +80,7 @@ along_within arc nodes arcs reach i step is from to inside low = record {
   down = omega (arith, is.down);
 }
 
-pub against_within : (arc : Arc) (nodes arcs reach i : ℕ) (step : Step) → IsAgainst arc i step → arc.from < nodes → arc.to < nodes →
+pub against_within : (arc : Arc) (nodes arcs reach i : ℕ) (step : ResidualArc) → IsAgainstArc arc i step → arc.from < nodes → arc.to < nodes →
     i < arcs → arc.least ≤ℤ pos reach → IsStepWithin nodes arcs reach step
 against_within arc nodes arcs reach i step is from to inside low = record {
   from = omega (arith, is.from);
@@ -90,7 +90,7 @@ against_within arc nodes arcs reach i step is from to inside low = record {
   down = omega (arith, ints, is.down);
 }
 
-pub steps_within : (nodes reach m : ℕ) (arcs : List Arc) (steps : List Step) → AreStepsOf arcs steps → EndsAreNodes nodes arcs →
+pub steps_within : (nodes reach m : ℕ) (arcs : List Arc) (steps : List ResidualArc) → AreStepsOf arcs steps → EndsAreNodes nodes arcs →
     m ≡ length arcs → ((i : ℕ) → i < length arcs → (arc_at arcs i).least ≤ℤ pos reach) → AreStepsWithin nodes m reach steps
 steps_within nodes reach m arcs steps are ends all low k inside =
     by_direction (λ j. IsStepWithin nodes m reach (step_at steps j)) (length arcs) k (omega (arith, are.two_for_each))
@@ -100,7 +100,7 @@ steps_within nodes reach m arcs steps are ends all low k inside =
 none : (nodes v : ℕ) → v < nodes → get_or (replicate {A = ℕ} nodes 0) v 0 ≡ 0
 none nodes v inside = get_or-replicate {A = ℕ} nodes v 0 0 inside
 
-pub no_rows : (nodes : ℕ) (steps : List Step) → AreRows nodes 0 steps (replicate {A = ℕ} nodes 0) []
+pub no_rows : (nodes : ℕ) (steps : List ResidualArc) → AreRows nodes 0 steps (replicate {A = ℕ} nodes 0) []
 no_rows nodes steps = record {
   last_for_each = length-replicate {A = ℕ} nodes 0;
   before_for_each = refl;
@@ -113,7 +113,7 @@ no_rows nodes steps = record {
 }
 
 -- one more step in its row
-module _ (nodes k : ℕ) (steps : List Step) (last before : List ℕ) (rows : AreRows nodes k steps last before)
+module _ (nodes k : ℕ) (steps : List ResidualArc) (last before : List ℕ) (rows : AreRows nodes k steps last before)
     (from_inside : (step_at steps k).from < nodes) where
   pub rows_more : AreRows nodes (k + 1) steps (set last (step_at steps k).from (k + 1)) (before ++ get_or last (step_at steps k).from 0 ∷ [])
   rows_more =

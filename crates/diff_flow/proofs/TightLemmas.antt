@@ -8,8 +8,8 @@ use Rattle.shape_graphs.specs.Arcs.{arc_at, EndsAreNodes, AreArcsWithin}
 use Rattle.shape_graphs.specs.Flows.{amount_at, over}
 use Rattle.shape_graphs.specs.Flows.{number_at}
 use Rattle.diff_flow.specs.Tight.{AreTight, AreLeastTight}
-use Rattle.diff_flow.specs.declared.steps.Step.{Step}
-use Rattle.diff_flow.specs.inner.Steps.{step_at, along_at, against_at, IsAlong, IsAgainst, AreStepsOf, IsOpen, Meets, AreMet}
+use Rattle.diff_flow.specs.declared.steps.ResidualArc.{ResidualArc}
+use Rattle.diff_flow.specs.inner.Steps.{step_at, along_at, against_at, IsAlongArc, IsAgainstArc, AreStepsOf, IsResidual, MeetsStep, AreMet}
 use Rattle.diff_flow.specs.inner.Numbers.{height, AreLeastMet, NoneMeet}
 use Rattle.diff_flow.proofs.StepLemmas.{by_direction}
 use Rattle.diff_flow.proofs.Gaps.{closed, closed_most, closed_keeps, all_covered}
@@ -30,18 +30,18 @@ nat_some (pos n) some = omega (arith, ints, some)
 nat_some (negsuc n) some = absurd (omega (arith, some))
 
 -- tight numbers meet the steps
-module _ (nodes : ℕ) (arcs : List Arc) (steps : List Step) (amounts : List ℕ) (ends : EndsAreNodes nodes arcs) (are : AreStepsOf arcs steps) where
+module _ (nodes : ℕ) (arcs : List Arc) (steps : List ResidualArc) (amounts : List ℕ) (ends : EndsAreNodes nodes arcs) (are : AreStepsOf arcs steps) where
   pub met_where_tight : (p : ℕ → ℤ) → AreTight nodes arcs amounts p → AreMet steps amounts (λ v. nat (p v))
   met_where_tight p tight k inside opens =
-      by_direction (λ j. IsOpen amounts (step_at steps j) → Meets (λ v. nat (p v)) (step_at steps j)) (length arcs) k (omega (arith, are.two_for_each))
+      by_direction (λ j. IsResidual amounts (step_at steps j) → MeetsStep (λ v. nat (p v)) (step_at steps j)) (length arcs) k (omega (arith, are.two_for_each))
       (λ i front _. along (are.along i front) (tight.solution i front)
       (tight.from_zero _ (ends i front).0) (tight.from_zero _ (ends i front).1))
       (λ i back some. against (are.against i back) (λ more. tight.tight i back more)
       (tight.from_zero _ (ends i back).0) (tight.from_zero _ (ends i back).1) some)
       opens
     where
-      along : {arc : Arc} {i : ℕ} {step : Step} → IsAlong arc i step → arc.least ≤ℤ (p arc.to -ℤ p arc.from) →
-          pos 0 ≤ℤ p arc.from → pos 0 ≤ℤ p arc.to → Meets (λ v. nat (p v)) step
+      along : {arc : Arc} {i : ℕ} {step : ResidualArc} → IsAlongArc arc i step → arc.least ≤ℤ (p arc.to -ℤ p arc.from) →
+          pos 0 ≤ℤ p arc.from → pos 0 ≤ℤ p arc.to → MeetsStep (λ v. nat (p v)) step
       along {arc} {i} {step} is kept from to =
           let a : nat (p step.from) ≡ nat (p arc.from) = ap (λ v. nat (p v)) is.from in
           let b : nat (p step.to) ≡ nat (p arc.to) = ap (λ v. nat (p v)) is.to in
@@ -49,8 +49,8 @@ module _ (nodes : ℕ) (arcs : List Arc) (steps : List Step) (amounts : List ℕ
           let d = nat_is (p arc.to) to in
           omega (arith, ints, a, b, c, d, kept, is.up, is.down)
 
-      against : {arc : Arc} {i : ℕ} {step : Step} → IsAgainst arc i step → (0 < amount_at amounts i → p arc.to -ℤ p arc.from ≡ arc.least) →
-          pos 0 ≤ℤ p arc.from → pos 0 ≤ℤ p arc.to → IsOpen amounts step → Meets (λ v. nat (p v)) step
+      against : {arc : Arc} {i : ℕ} {step : ResidualArc} → IsAgainstArc arc i step → (0 < amount_at amounts i → p arc.to -ℤ p arc.from ≡ arc.least) →
+          pos 0 ≤ℤ p arc.from → pos 0 ≤ℤ p arc.to → IsResidual amounts step → MeetsStep (λ v. nat (p v)) step
       against {arc} {i} {step} is kept from to opens =
           let same : amount_at amounts step.arc ≡ amount_at amounts i = ap (amount_at amounts) is.number in
           let just = kept (omega (arith, opens, same, is.up)) in

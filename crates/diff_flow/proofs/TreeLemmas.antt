@@ -6,11 +6,11 @@ use Rattle.std.proofs.lemmas.Bool.{cases_eq, cases_lt, lt-ltb, le-ltb, false≢t
 use Rattle.std.proofs.lemmas.List.{length-set, get_or_append_left, get_or_push, length_push, get_or_read, get_or_default, get_or_past}
 use Rattle.std.proofs.lemmas.List.Sums.{sum_by-set, sum_by-le}
 use Rattle.shape_graphs.specs.Flows.{amount_at}
-use Rattle.diff_flow.specs.declared.steps.Step.{Step}
+use Rattle.diff_flow.specs.declared.steps.ResidualArc.{ResidualArc}
 use Rattle.diff_flow.specs.declared.tree.Reached.{Reached}
 use Rattle.diff_flow.specs.inner.Steps.{step_at, AreStepsWithin, AreRows}
 use Rattle.diff_flow.specs.inner.Numbers.{height}
-use Rattle.diff_flow.specs.inner.Search.{no_entry, entry_at, step_of, IsPassable, IsRoom, IsReached, IsTree, ArePlaced, IsBlank, Raises, Grows, IsEntered, NoneLacks, IsFound, Searches, IsPassed, ArePassedFrom, ArePassed}
+use Rattle.diff_flow.specs.inner.Search.{no_entry, entry_at, step_of_entry, IsPassable, IsRoom, IsReached, IsTree, ArePlaced, IsBlank, Raises, Grows, IsEntered, NoneLacks, ReachesDeficit, Searches, IsFollowed, AreFollowedFrom, AreFollowed}
 use Rattle.diff_flow.proofs.SetLemmas.{by_write}
 
 -- an entry of a longer list, by cases
@@ -24,7 +24,7 @@ by_entry P tree entry j inside last front =
     ]
 
 -- an entry was reached in every tree that has it and its parent's
-reached_kept : (steps : List Step) (amounts numbers : List ℕ) (tree' : List Reached) (j : ℕ) (entry above : Reached) →
+reached_kept : (steps : List ResidualArc) (amounts numbers : List ℕ) (tree' : List Reached) (j : ℕ) (entry above : Reached) →
     entry_at tree' j ≡ entry → entry_at tree' entry.parent ≡ above → entry.parent < j → entry.step < length steps →
     (step_at steps entry.step).from ≡ above.node → (step_at steps entry.step).to ≡ entry.node →
     IsPassable amounts numbers (step_at steps entry.step) →
@@ -38,7 +38,7 @@ reached_kept steps amounts numbers tree' j entry above here up earlier inside fr
       from = ap (λ (e : Reached). (step_at steps e.step).from) here ∙ from ∙ sym (ap (λ (e : Reached). e.node) over);
       to = ap (λ (e : Reached). (step_at steps e.step).to) here ∙ to ∙ sym (ap (λ (e : Reached). e.node) here);
       passable = subst (λ (e : Reached). IsPassable amounts numbers (step_at steps e.step)) (sym here) passable;
-      room = subst (λ (a : Reached). IsRoom (step_of steps tree' j) (amount_at amounts (step_of steps tree' j).arc) a.room (entry_at tree' j).room) (sym over)
+      room = subst (λ (a : Reached). IsRoom (step_of_entry steps tree' j) (amount_at amounts (step_of_entry steps tree' j).arc) a.room (entry_at tree' j).room) (sym over)
           (subst (λ (e : Reached). IsRoom (step_at steps e.step) (amount_at amounts (step_at steps e.step).arc) above.room e.room) (sym here) room);
     }
 
@@ -49,7 +49,7 @@ min_none : (x : ℕ) → x ≡ 0 → min 1 x ≡ 0
 min_none x none = ap (λ y. min 1 y) none
 
 -- one entry more
-module _ (nodes arcs reach : ℕ) (steps : List Step) (amounts numbers : List ℕ) (k : ℕ) (tree : List Reached) (places : List ℕ) (entry : Reached)
+module _ (nodes arcs reach : ℕ) (steps : List ResidualArc) (amounts numbers : List ℕ) (k : ℕ) (tree : List Reached) (places : List ℕ) (entry : Reached)
     (all : AreStepsWithin nodes arcs reach steps) (inside : k < length steps) (passable : IsPassable amounts numbers (step_at steps k))
     (from : 0 < slice_index places (step_at steps k).from) (fresh : slice_index places (step_at steps k).to ≡ 0)
     (is : IsTree nodes steps amounts numbers tree places) (node : entry.node ≡ (step_at steps k).to)
@@ -132,7 +132,7 @@ module _ (nodes arcs reach : ℕ) (steps : List Step) (amounts numbers : List �
         omega (arith, one_more, min_some (length tree), min_none _ fresh, is.count, length_push tree entry);
   }
 
-pub tree_more : (nodes arcs reach : ℕ) (steps : List Step) (amounts numbers : List ℕ) (k : ℕ) (tree tree' : List Reached) (places places' : List ℕ)
+pub tree_more : (nodes arcs reach : ℕ) (steps : List ResidualArc) (amounts numbers : List ℕ) (k : ℕ) (tree tree' : List Reached) (places places' : List ℕ)
     (entry : Reached) → AreStepsWithin nodes arcs reach steps → k < length steps → IsPassable amounts numbers (step_at steps k) →
     0 < slice_index places (step_at steps k).from → slice_index places (step_at steps k).to ≡ 0 →
     IsTree nodes steps amounts numbers tree places → IsEntered steps amounts k tree places tree' places' entry →
@@ -144,12 +144,12 @@ tree_more nodes arcs reach steps amounts numbers k tree tree' places places' ent
     enters.step enters.room))
 
 -- one entry more
-pub entered_longer : (steps : List Step) (amounts : List ℕ) (k : ℕ) (tree tree' : List Reached) (places places' : List ℕ) (entry : Reached) →
+pub entered_longer : (steps : List ResidualArc) (amounts : List ℕ) (k : ℕ) (tree tree' : List Reached) (places places' : List ℕ) (entry : Reached) →
     IsEntered steps amounts k tree places tree' places' entry → length tree' ≡ length tree + 1
 entered_longer steps amounts k tree tree' places places' entry enters = ap length enters.grown ∙ length_push tree entry
 
 -- the last entry
-pub entered_last : (steps : List Step) (amounts : List ℕ) (k : ℕ) (tree tree' : List Reached) (places places' : List ℕ) (entry : Reached) →
+pub entered_last : (steps : List ResidualArc) (amounts : List ℕ) (k : ℕ) (tree tree' : List Reached) (places places' : List ℕ) (entry : Reached) →
     IsEntered steps amounts k tree places tree' places' entry → entry_at tree' (length tree' - 1) ≡ entry
 entered_last steps amounts k tree tree' places places' entry enters =
     let longer = entered_longer steps amounts k tree tree' places places' entry enters in
@@ -157,8 +157,8 @@ entered_last steps amounts k tree tree' places places' entry enters =
     ap (entry_at tree') back ∙ ap (λ t. entry_at t (length tree)) enters.grown ∙ get_or_push tree entry no_entry (length tree) refl
 
 -- the new node lacks
-pub entered_found : (steps : List Step) (amounts want : List ℕ) (k : ℕ) (tree tree' : List Reached) (places places' : List ℕ) (entry : Reached) →
-    IsEntered steps amounts k tree places tree' places' entry → 0 < slice_index want (step_at steps k).to → IsFound want tree tree'
+pub entered_found : (steps : List ResidualArc) (amounts want : List ℕ) (k : ℕ) (tree tree' : List Reached) (places places' : List ℕ) (entry : Reached) →
+    IsEntered steps amounts k tree places tree' places' entry → 0 < slice_index want (step_at steps k).to → ReachesDeficit want tree tree'
 entered_found steps amounts want k tree tree' places places' entry enters lacks =
     let node_is : (entry_at tree' (length tree' - 1)).node ≡ (step_at steps k).to =
     ap (λ (e : Reached). e.node) (entered_last steps amounts k tree tree' places places' entry enters) ∙ enters.node in
@@ -168,7 +168,7 @@ entered_found steps amounts want k tree tree' places places' entry enters lacks 
     }
 
 -- the new node does not lack
-pub entered_none : (steps : List Step) (amounts want : List ℕ) (k : ℕ) (tree tree' : List Reached) (places places' : List ℕ) (entry : Reached) →
+pub entered_none : (steps : List ResidualArc) (amounts want : List ℕ) (k : ℕ) (tree tree' : List Reached) (places places' : List ℕ) (entry : Reached) →
     (step_at steps k).to < length places → IsEntered steps amounts k tree places tree' places' entry → NoneLacks want places →
     slice_index want (step_at steps k).to ≡ 0 → NoneLacks want places'
 entered_none steps amounts want k tree tree' places places' entry to_in enters none level =
@@ -177,13 +177,13 @@ entered_none steps amounts want k tree tree' places places' entry to_in enters n
     (λ same _. subst (λ w. slice_index want w ≡ 0) (sym same) level) (λ _ some. none v some))
 
 -- the entries are at most the nodes
-pub tree_most : (nodes : ℕ) (steps : List Step) (amounts numbers : List ℕ) (tree : List Reached) (places : List ℕ) →
+pub tree_most : (nodes : ℕ) (steps : List ResidualArc) (amounts numbers : List ℕ) (tree : List Reached) (places : List ℕ) →
     IsTree nodes steps amounts numbers tree places → length tree ≤ nodes
 tree_most nodes steps amounts numbers tree places is =
     omega (arith, sum_by-le (λ x. min 1 x) 1 places (λ j d inside. min-le_left 1 (get_or places j d)), is.count, is.one_for_each)
 
 -- fewer than the nodes where one is not reached
-pub tree_few : (nodes : ℕ) (steps : List Step) (amounts numbers : List ℕ) (tree : List Reached) (places : List ℕ) (v : ℕ) →
+pub tree_few : (nodes : ℕ) (steps : List ResidualArc) (amounts numbers : List ℕ) (tree : List Reached) (places : List ℕ) (v : ℕ) →
     IsTree nodes steps amounts numbers tree places → v < nodes → slice_index places v ≡ 0 → length tree < nodes
 tree_few nodes steps amounts numbers tree places v is v_in fresh =
     let most = sum_by-le (λ x. min 1 x) 1 (set places v 1) (λ j d inside. min-le_left 1 (get_or (set places v 1) j d)) in
@@ -200,41 +200,41 @@ grows_trans tree tree' tree'' places places' places'' first then = record {
 }
 
 -- passed steps stay passed
-pub passed_from_grows : (steps : List Step) (amounts numbers : List ℕ) (tree tree' : List Reached) (places places' : List ℕ) (node entry : ℕ) →
-    Grows tree places tree' places' → ArePassedFrom steps amounts numbers places node entry → ArePassedFrom steps amounts numbers places' node entry
+pub passed_from_grows : (steps : List ResidualArc) (amounts numbers : List ℕ) (tree tree' : List Reached) (places places' : List ℕ) (node entry : ℕ) →
+    Grows tree places tree' places' → AreFollowedFrom steps amounts numbers places node entry → AreFollowedFrom steps amounts numbers places' node entry
 passed_from_grows steps amounts numbers tree tree' places places' node entry grows passed k inside behind from passable =
     grows.placed _ (passed k inside behind from passable)
 
-pub passed_grows : (steps : List Step) (amounts numbers : List ℕ) (tree tree' : List Reached) (places places' : List ℕ) (count : ℕ) →
-    Grows tree places tree' places' → count ≤ length tree → ArePassed steps amounts numbers tree places count →
-    ArePassed steps amounts numbers tree' places' count
+pub passed_grows : (steps : List ResidualArc) (amounts numbers : List ℕ) (tree tree' : List Reached) (places places' : List ℕ) (count : ℕ) →
+    Grows tree places tree' places' → count ≤ length tree → AreFollowed steps amounts numbers tree places count →
+    AreFollowed steps amounts numbers tree' places' count
 passed_grows steps amounts numbers tree tree' places places' count grows most passed j inside =
-    subst (λ (e : Reached). ArePassedFrom steps amounts numbers places' e.node 0) (sym (grows.kept j (omega (arith, inside, most))))
+    subst (λ (e : Reached). AreFollowedFrom steps amounts numbers places' e.node 0) (sym (grows.kept j (omega (arith, inside, most))))
     (passed_from_grows steps amounts numbers tree tree' places places' (entry_at tree j).node 0 grows (passed j inside))
 
 -- the steps of one entry more are passed
-pub passed_more : (steps : List Step) (amounts numbers : List ℕ) (tree tree' : List Reached) (places places' : List ℕ) (at : ℕ) →
-    Grows tree places tree' places' → at < length tree → ArePassed steps amounts numbers tree places at →
-    ArePassedFrom steps amounts numbers places' (entry_at tree at).node 0 → ArePassed steps amounts numbers tree' places' (at + 1)
+pub passed_more : (steps : List ResidualArc) (amounts numbers : List ℕ) (tree tree' : List Reached) (places places' : List ℕ) (at : ℕ) →
+    Grows tree places tree' places' → at < length tree → AreFollowed steps amounts numbers tree places at →
+    AreFollowedFrom steps amounts numbers places' (entry_at tree at).node 0 → AreFollowed steps amounts numbers tree' places' (at + 1)
 passed_more steps amounts numbers tree tree' places places' at grows inside passed here j j_in =
     elim (cases_lt j at) [
       | inl before ↦ passed_grows steps amounts numbers tree tree' places places' at grows (omega arith) passed j before
       | inr behind ↦
           let same : at ≡ j = omega arith in
-          subst (λ i. ArePassedFrom steps amounts numbers places' (entry_at tree' i).node 0) same
-          (subst (λ (e : Reached). ArePassedFrom steps amounts numbers places' e.node 0) (sym (grows.kept at inside)) here)
+          subst (λ i. AreFollowedFrom steps amounts numbers places' (entry_at tree' i).node 0) same
+          (subst (λ (e : Reached). AreFollowedFrom steps amounts numbers places' e.node 0) (sym (grows.kept at inside)) here)
     ]
 
 -- the next step of the node
-pub passed_next : (nodes : ℕ) (steps : List Step) (amounts numbers places last before : List ℕ) (node k : ℕ) →
+pub passed_next : (nodes : ℕ) (steps : List ResidualArc) (amounts numbers places last before : List ℕ) (node k : ℕ) →
     AreRows nodes (length steps) steps last before → k < length steps → (step_at steps k).from ≡ node →
-    IsPassed steps amounts numbers places k → ArePassedFrom steps amounts numbers places node (k + 1) →
-    ArePassedFrom steps amounts numbers places node (slice_index before k)
+    IsFollowed steps amounts numbers places k → AreFollowedFrom steps amounts numbers places node (k + 1) →
+    AreFollowedFrom steps amounts numbers places node (slice_index before k)
 passed_next nodes steps amounts numbers places last before node k rows inside is_from here passed j j_in behind from =
     elim (cases_lt k j) [
       | inl above ↦ passed j j_in (omega (arith, above)) from
       | inr below ↦ elim (cases_eq k j) [
-        | inl same ↦ subst (IsPassed steps amounts numbers places) same here
+        | inl same ↦ subst (IsFollowed steps amounts numbers places) same here
         | inr apart ↦ absurd (let less : j < k = omega (arith, apart, below) in
             omega (arith, rows.before_all j k less inside (from ∙ sym is_from), behind))
       ]
@@ -246,28 +246,28 @@ by_false true P Q is fact = absurd (false≢true (sym is))
 by_false false P Q is fact = fact
 
 -- whether the new node lacks tells what the search found
-pub searches_entered : (steps : List Step) (amounts want : List ℕ) (k : ℕ) (step : Step) (tree tree' : List Reached) (places places' : List ℕ)
+pub searches_entered : (steps : List ResidualArc) (amounts want : List ℕ) (k : ℕ) (step : ResidualArc) (tree tree' : List Reached) (places places' : List ℕ)
     (entry : Reached) → step ≡ step_at steps k → step.to < length places → IsEntered steps amounts k tree places tree' places' entry →
     NoneLacks want places → Searches want tree tree' places' (ltb 0 (slice_index want step.to))
 searches_entered steps amounts want k step tree tree' places places' entry is to_in enters none =
-    subst (λ (s : Step). Searches want tree tree' places' (ltb 0 (slice_index want s.to))) (sym is)
+    subst (λ (s : ResidualArc). Searches want tree tree' places' (ltb 0 (slice_index want s.to))) (sym is)
     (elim (cases_lt 0 (slice_index want (step_at steps k).to)) [
       | inl lacks ↦ rw (lt-ltb 0 (slice_index want (step_at steps k).to) lacks)
           (entered_found steps amounts want k tree tree' places places' entry enters lacks)
       | inr level ↦ rw (le-ltb 0 (slice_index want (step_at steps k).to) level)
           (entered_none steps amounts want k tree tree' places places' entry
-          (subst (λ (s : Step). s.to < length places) is to_in) enters none (omega (arith, level)))
+          (subst (λ (s : ResidualArc). s.to < length places) is to_in) enters none (omega (arith, level)))
     ])
 
 -- the end of the step is not reached
-pub fresh_end : (steps : List Step) (k : ℕ) (step : Step) (places : List ℕ) (read : ℕ) → step ≡ step_at steps k → step.to < length places →
+pub fresh_end : (steps : List ResidualArc) (k : ℕ) (step : ResidualArc) (places : List ℕ) (read : ℕ) → step ≡ step_at steps k → step.to < length places →
     read ≡ get_or places step.to read → read ≤ 0 → slice_index places (step_at steps k).to ≡ 0
 fresh_end steps k step places read is to_in reads none =
     let at : read ≡ slice_index places step.to = get_or_read places step.to read to_in reads 0 in
-    subst (λ (s : Step). slice_index places s.to ≡ 0) is (omega (arith, at, none))
+    subst (λ (s : ResidualArc). slice_index places s.to ≡ 0) is (omega (arith, at, none))
 
 -- the tree of one node
-module _ (nodes : ℕ) (steps : List Step) (amounts numbers : List ℕ) (start most : ℕ) (entry : Reached) (tree : List Reached) (places : List ℕ)
+module _ (nodes : ℕ) (steps : List ResidualArc) (amounts numbers : List ℕ) (start most : ℕ) (entry : Reached) (tree : List Reached) (places : List ℕ)
     (inside : start < nodes) (some : 0 < most) (node : entry.node ≡ start) (room : entry.room ≡ most) (blank : IsBlank nodes tree places) where
   start_in : start < length places
   start_in = omega (arith, inside, blank.one_for_each)
@@ -307,7 +307,7 @@ module _ (nodes : ℕ) (steps : List Step) (amounts numbers : List ℕ) (start m
       (λ _ more. absurd (omega (arith, more, blank.zeros v)))
 
 -- the places of a tree
-pub tree_placed : (nodes : ℕ) (steps : List Step) (amounts numbers : List ℕ) (tree : List Reached) (places : List ℕ) →
+pub tree_placed : (nodes : ℕ) (steps : List ResidualArc) (amounts numbers : List ℕ) (tree : List Reached) (places : List ℕ) →
     IsTree nodes steps amounts numbers tree places → ArePlaced nodes tree places
 tree_placed nodes steps amounts numbers tree places is = record {
   one_for_each = is.one_for_each;

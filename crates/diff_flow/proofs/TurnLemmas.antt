@@ -2,18 +2,18 @@
 use Rattle.std.proofs.Common.{◌≡◌, ℕ, zero, suc, ◌+◌, ◌-◌, ◌*◌, ◌^◌, ◌<◌, ◌≤◌, ◌⊎◌, inl, inr, List, length, slice_index, refl, sym, ap, subst, ◌∙◌, arith, ltb, Bool, true, false, MatchBool, Option, Some, None}
 use Rattle.std.proofs.lemmas.Bool.{cases_eq, cases_lt, ltb-true, ltb-false}
 use Rattle.shape_graphs.specs.Flows.{amount_at}
-use Rattle.diff_flow.specs.declared.steps.Step.{Step}
+use Rattle.diff_flow.specs.declared.steps.ResidualArc.{ResidualArc}
 use Rattle.diff_flow.specs.declared.tree.Reached.{Reached}
 use Rattle.diff_flow.specs.declared.leaving.Leaving.{Leaving}
-use Rattle.diff_flow.specs.inner.Steps.{step_at, along_at, against_at, AreStepsWithin, AreRows, ArePaired, IsOpen, Meets, AreMet}
+use Rattle.diff_flow.specs.inner.Steps.{step_at, along_at, against_at, AreStepsWithin, AreRows, ArePaired, IsResidual, MeetsStep, AreMet}
 use Rattle.diff_flow.specs.inner.Numbers.{height}
-use Rattle.diff_flow.specs.inner.Search.{entry_at, step_of, AreFit, IsPassable, IsTree, ArePlaced, NoneLacks, IsPassed, ArePassed, IsLeaving, IsSeen, IsSeenBefore, IsLeastLeaving, IsLesser, Grows, Raises, IsTrap}
+use Rattle.diff_flow.specs.inner.Search.{entry_at, step_of_entry, AreFit, IsPassable, IsTree, ArePlaced, NoneLacks, IsFollowed, AreFollowed, IsLeaving, IsScanned, IsScannedBefore, IsLeastLeaving, IsLesser, Grows, Raises, IsTrap}
 use Rattle.diff_flow.proofs.Gaps.{closed_most, uncovered}
 use Rattle.diff_flow.proofs.StepLemmas.{by_direction}
 use Rattle.diff_flow.proofs.RouteLemmas.{along_number}
 
 -- along the arcs the numbers meet every step
-pub met_along : (arcs : ℕ) (steps : List Step) (amounts numbers : List ℕ) → ArePaired arcs steps → AreMet steps amounts (height numbers) →
+pub met_along : (arcs : ℕ) (steps : List ResidualArc) (amounts numbers : List ℕ) → ArePaired arcs steps → AreMet steps amounts (height numbers) →
     (k : ℕ) → k < arcs → height numbers (along_at steps k).from + (along_at steps k).up ≤ height numbers (along_at steps k).to
 met_along arcs steps amounts numbers paired met k inside =
     let ups = paired.up k inside in
@@ -21,7 +21,7 @@ met_along arcs steps amounts numbers paired met k inside =
     omega (arith, meets, paired.level k inside)
 
 -- a step against an arc with an amount can be passed
-back_open : (arcs : ℕ) (steps : List Step) (amounts numbers : List ℕ) → ArePaired arcs steps → (i : ℕ) → i < arcs → 0 < amount_at amounts i →
+back_open : (arcs : ℕ) (steps : List ResidualArc) (amounts numbers : List ℕ) → ArePaired arcs steps → (i : ℕ) → i < arcs → 0 < amount_at amounts i →
     IsPassable amounts numbers (against_at steps i)
 back_open arcs steps amounts numbers paired i inside some =
     let back = paired.back i inside in
@@ -32,8 +32,8 @@ back_open arcs steps amounts numbers paired i inside some =
     }
 
 -- and is open
-back_is_open : (arcs : ℕ) (steps : List Step) (amounts : List ℕ) → ArePaired arcs steps → (i : ℕ) → i < arcs → 0 < amount_at amounts i →
-    IsOpen amounts (against_at steps i)
+back_is_open : (arcs : ℕ) (steps : List ResidualArc) (amounts : List ℕ) → ArePaired arcs steps → (i : ℕ) → i < arcs → 0 < amount_at amounts i →
+    IsResidual amounts (against_at steps i)
 back_is_open arcs steps amounts paired i inside some =
     let back = paired.back i inside in
     let number : (against_at steps i).arc ≡ i = back.arc ∙ paired.number i inside in
@@ -41,8 +41,8 @@ back_is_open arcs steps amounts paired i inside some =
     omega (arith, there)
 
 -- only arcs with an amount have an open step against them
-back_some : (arcs : ℕ) (steps : List Step) (amounts : List ℕ) → ArePaired arcs steps → (i : ℕ) → i < arcs →
-    IsOpen amounts (against_at steps i) → 0 < amount_at amounts i
+back_some : (arcs : ℕ) (steps : List ResidualArc) (amounts : List ℕ) → ArePaired arcs steps → (i : ℕ) → i < arcs →
+    IsResidual amounts (against_at steps i) → 0 < amount_at amounts i
 back_some arcs steps amounts paired i inside opens =
     let back = paired.back i inside in
     let number : (against_at steps i).arc ≡ i = back.arc ∙ paired.number i inside in
@@ -50,11 +50,11 @@ back_some arcs steps amounts paired i inside opens =
     subst (λ j. 0 < amount_at amounts j) number there
 
 -- where the steps of all reached nodes are passed
-module _ (nodes arcs reach : ℕ) (steps : List Step) (amounts numbers want : List ℕ) (tree : List Reached) (places : List ℕ)
+module _ (nodes arcs reach : ℕ) (steps : List ResidualArc) (amounts numbers want : List ℕ) (tree : List Reached) (places : List ℕ)
     (all : AreStepsWithin nodes arcs reach steps) (paired : ArePaired arcs steps)
     (is : IsTree nodes steps amounts numbers tree places)
-    (passed : ArePassed steps amounts numbers tree places (length tree)) where
-  pub passed_at : (k : ℕ) → k < length steps → 0 < slice_index places (step_at steps k).from → IsPassed steps amounts numbers places k
+    (passed : AreFollowed steps amounts numbers tree places (length tree)) where
+  pub passed_at : (k : ℕ) → k < length steps → 0 < slice_index places (step_at steps k).from → IsFollowed steps amounts numbers places k
   passed_at k inside reached =
       let v_in = (all k inside).from in
       let within = is.within (step_at steps k).from v_in in
@@ -94,12 +94,12 @@ module _ (nodes arcs reach : ℕ) (steps : List Step) (amounts numbers want : Li
   }
 
 -- the numbers of the reached nodes are raised by the least slack of the steps that leave them
-module _ (nodes arcs reach limit : ℕ) (steps : List Step) (amounts numbers numbers' want : List ℕ) (tree : List Reached) (places : List ℕ)
+module _ (nodes arcs reach limit : ℕ) (steps : List ResidualArc) (amounts numbers numbers' want : List ℕ) (tree : List Reached) (places : List ℕ)
     (all : AreStepsWithin nodes arcs reach steps) (paired : ArePaired arcs steps)
     (fit : AreFit nodes limit steps amounts numbers want)
     (is : IsTree nodes steps amounts numbers tree places)
     (none : NoneLacks want places)
-    (passed : ArePassed steps amounts numbers tree places (length tree))
+    (passed : AreFollowed steps amounts numbers tree places (length tree))
     (step slack : ℕ) (leaving : IsLeaving steps numbers places step slack)
     (least : (k other : ℕ) → k < length steps → IsLeaving steps numbers places k other → slack ≤ other)
     (raises : Raises places numbers numbers' slack) where
@@ -122,10 +122,10 @@ module _ (nodes arcs reach limit : ℕ) (steps : List Step) (amounts numbers num
   ]
 
   -- a step is met still, where it does not leave the reached nodes or the raise is at most its slack
-  meets_still : (k : ℕ) → k < length steps → Meets (height numbers) (step_at steps k) →
+  meets_still : (k : ℕ) → k < length steps → MeetsStep (height numbers) (step_at steps k) →
       (0 < slice_index places (step_at steps k).from → slice_index places (step_at steps k).to ≡ 0 →
       height numbers (step_at steps k).from + (step_at steps k).up + slack ≤ height numbers (step_at steps k).to + (step_at steps k).down) →
-      Meets (height numbers') (step_at steps k)
+      MeetsStep (height numbers') (step_at steps k)
   meets_still k inside meets leaves =
       let fits = all k inside in
       elim (cases_lt 0 (slice_index places (step_at steps k).from)) [
@@ -142,10 +142,10 @@ module _ (nodes arcs reach limit : ℕ) (steps : List Step) (amounts numbers num
 
   pub met_raised : AreMet steps amounts (height numbers')
   met_raised k inside opens =
-      by_direction (λ j. j < length steps → IsOpen amounts (step_at steps j) → Meets (height numbers') (step_at steps j)) arcs k
+      by_direction (λ j. j < length steps → IsResidual amounts (step_at steps j) → MeetsStep (height numbers') (step_at steps j)) arcs k
       (omega (arith, paired.two_for_each)) front_met back_met inside opens
     where
-      front_met : (i : ℕ) → i < arcs → 2 * i < length steps → IsOpen amounts (along_at steps i) → Meets (height numbers') (along_at steps i)
+      front_met : (i : ℕ) → i < arcs → 2 * i < length steps → IsResidual amounts (along_at steps i) → MeetsStep (height numbers') (along_at steps i)
       front_met i front inside opens =
           let along = met_along arcs steps amounts numbers paired fit.met i front in
           meets_still (2 * i) inside (fit.met (2 * i) inside opens)
@@ -153,8 +153,8 @@ module _ (nodes arcs reach limit : ℕ) (steps : List Step) (amounts numbers num
           (record { inside = inside; along = paired.up i front; from = from; to = to; just = omega arith }) in
           omega arith)
 
-      back_met : (i : ℕ) → i < arcs → 2 * i + 1 < length steps → IsOpen amounts (against_at steps i) →
-          Meets (height numbers') (against_at steps i)
+      back_met : (i : ℕ) → i < arcs → 2 * i + 1 < length steps → IsResidual amounts (against_at steps i) →
+          MeetsStep (height numbers') (against_at steps i)
       back_met i front inside opens =
           meets_still (2 * i + 1) inside (fit.met (2 * i + 1) inside opens)
           (λ from to.
@@ -248,8 +248,8 @@ module _ (nodes arcs reach limit : ℕ) (steps : List Step) (amounts numbers num
           let was = tree_raised.each j after inside in
           let parent_in : (entry_at tree j).parent < length tree = omega (arith, was.earlier) in
           let near = step_near (entry_at tree j).step was.inside was.passable in
-          let end : height numbers' (step_of steps tree j).to ≡ height numbers' (entry_at tree j).node = ap (height numbers') was.to in
-          let start : height numbers' (step_of steps tree j).from ≡ height numbers' (entry_at tree (entry_at tree j).parent).node =
+          let end : height numbers' (step_of_entry steps tree j).to ≡ height numbers' (entry_at tree j).node = ap (height numbers') was.to in
+          let start : height numbers' (step_of_entry steps tree j).from ≡ height numbers' (entry_at tree (entry_at tree j).parent).node =
           ap (height numbers') was.from in
           above_first n (entry_at tree j).parent (omega (arith, was.earlier)) parent_in
           (above_near (entry_at tree (entry_at tree j).parent).node (entry_at tree j).node (is.inside _ parent_in) above
@@ -307,7 +307,7 @@ module _ (nodes arcs reach limit : ℕ) (steps : List Step) (amounts numbers num
   }
 
 -- numbers that meet all arcs meet each step along one
-pub met_step : (arcs : ℕ) (steps : List Step) (numbers : List ℕ) → ArePaired arcs steps →
+pub met_step : (arcs : ℕ) (steps : List ResidualArc) (numbers : List ℕ) → ArePaired arcs steps →
     ((i : ℕ) → i < arcs → height numbers (along_at steps i).from + (along_at steps i).up ≤ height numbers (along_at steps i).to) →
     (k : ℕ) → k < length steps → 0 < (step_at steps k).up →
     height numbers (step_at steps k).from + (step_at steps k).up ≤ height numbers (step_at steps k).to
@@ -317,19 +317,19 @@ met_step arcs steps numbers paired met k inside along =
     (met number.0 number.1)
 
 -- the step just read leaves the reached nodes
-pub leaves_at : (steps : List Step) (numbers places : List ℕ) (k : ℕ) (step : Step) → step ≡ step_at steps k → k < length steps → 0 < step.up →
+pub leaves_at : (steps : List ResidualArc) (numbers places : List ℕ) (k : ℕ) (step : ResidualArc) → step ≡ step_at steps k → k < length steps → 0 < step.up →
     (slice_index places step.from ≡ 0 → ⊥) → slice_index places step.to ≤ 0 →
     height numbers (step_at steps k).from + (step_at steps k).up ≤ height numbers (step_at steps k).to →
     IsLeaving steps numbers places k (height numbers step.to - height numbers step.from - step.up)
 leaves_at steps numbers places k step is inside along from to met =
-    let from' : slice_index places (step_at steps k).from ≡ 0 → ⊥ = subst (λ (s : Step). slice_index places s.from ≡ 0 → ⊥) is from in
-    let to' : slice_index places (step_at steps k).to ≤ 0 = subst (λ (s : Step). slice_index places s.to ≤ 0) is to in
-    let along' : 0 < (step_at steps k).up = subst (λ (s : Step). 0 < s.up) is along in
-    subst (λ (s : Step). IsLeaving steps numbers places k (height numbers s.to - height numbers s.from - s.up)) (sym is)
+    let from' : slice_index places (step_at steps k).from ≡ 0 → ⊥ = subst (λ (s : ResidualArc). slice_index places s.from ≡ 0 → ⊥) is from in
+    let to' : slice_index places (step_at steps k).to ≤ 0 = subst (λ (s : ResidualArc). slice_index places s.to ≤ 0) is to in
+    let along' : 0 < (step_at steps k).up = subst (λ (s : ResidualArc). 0 < s.up) is along in
+    subst (λ (s : ResidualArc). IsLeaving steps numbers places k (height numbers s.to - height numbers s.from - s.up)) (sym is)
     (record { inside = inside; along = along'; from = omega (arith, from'); to = omega arith; just = omega (arith, met) })
 
 -- a step that does not leave them changes nothing
-pub least_same : (steps : List Step) (numbers places : List ℕ) (k : ℕ) (seen seen' : ℕ → Type 0) (least : Option Leaving) →
+pub least_same : (steps : List ResidualArc) (numbers places : List ℕ) (k : ℕ) (seen seen' : ℕ → Type 0) (least : Option Leaving) →
     ((j : ℕ) → seen' j → seen j ⊎ (j ≡ k)) → ((slack : ℕ) → IsLeaving steps numbers places k slack → ⊥) →
     IsLeastLeaving seen steps numbers places least → IsLeastLeaving seen' steps numbers places least
 least_same steps numbers places k seen seen' None more stays was = λ j slack inside leaves.
@@ -346,14 +346,14 @@ least_same steps numbers places k seen seen' (Some least) more stays was = (
 )
 
 -- a step has one slack
-one_slack : (steps : List Step) (numbers places : List ℕ) (j k slack other : ℕ) → j ≡ k →
+one_slack : (steps : List ResidualArc) (numbers places : List ℕ) (j k slack other : ℕ) → j ≡ k →
     IsLeaving steps numbers places k slack → IsLeaving steps numbers places j other → slack ≡ other
 one_slack steps numbers places j k slack other here leaves leaves' =
     let there = subst (λ i. IsLeaving steps numbers places i other) here leaves' in
     omega (arith, leaves.just, there.just)
 
 -- the first step that leaves them
-pub least_first : (steps : List Step) (numbers places : List ℕ) (k slack : ℕ) (seen seen' : ℕ → Type 0) →
+pub least_first : (steps : List ResidualArc) (numbers places : List ℕ) (k slack : ℕ) (seen seen' : ℕ → Type 0) →
     ((j : ℕ) → seen' j → seen j ⊎ (j ≡ k)) →
     IsLeaving steps numbers places k slack → IsLeastLeaving seen steps numbers places None →
     IsLeastLeaving seen' steps numbers places (Some (record { step = k; slack = slack }))
@@ -366,7 +366,7 @@ least_first steps numbers places k slack seen seen' more leaves none = (
 )
 
 -- the lesser of two
-pub least_lesser : (steps : List Step) (numbers places : List ℕ) (k slack : ℕ) (seen seen' : ℕ → Type 0) (least lesser : Leaving) →
+pub least_lesser : (steps : List ResidualArc) (numbers places : List ℕ) (k slack : ℕ) (seen seen' : ℕ → Type 0) (least lesser : Leaving) →
     ((j : ℕ) → seen' j → seen j ⊎ (j ≡ k)) →
     IsLeaving steps numbers places k slack → IsLesser least k slack lesser → IsLeastLeaving seen steps numbers places (Some least) →
     IsLeastLeaving seen' steps numbers places (Some lesser)
@@ -383,7 +383,7 @@ least_lesser steps numbers places k slack seen seen' least lesser more leaves is
 )
 
 -- the least of more steps is the least of those of them that leave
-pub least_within : (steps : List Step) (numbers places : List ℕ) (seen seen' : ℕ → Type 0) (least : Option Leaving) →
+pub least_within : (steps : List ResidualArc) (numbers places : List ℕ) (seen seen' : ℕ → Type 0) (least : Option Leaving) →
     ((k slack : ℕ) → IsLeaving steps numbers places k slack → seen' k → seen k) →
     IsLeastLeaving seen steps numbers places least → IsLeastLeaving seen' steps numbers places least
 least_within steps numbers places seen seen' None more was = λ k slack inside leaves. was k slack (more k slack leaves inside) leaves
@@ -391,8 +391,8 @@ least_within steps numbers places seen seen' (Some least) more was =
     (was.0, λ k slack inside leaves. was.1 k slack (more k slack leaves inside) leaves)
 
 -- one step more of the node is seen
-pub seen_next : (steps : List Step) (places : List ℕ) (at node k j : ℕ) → IsSeen steps places at node k j →
-    IsSeen steps places at node (k + 1) j ⊎ (j ≡ k)
+pub seen_next : (steps : List ResidualArc) (places : List ℕ) (at node k j : ℕ) → IsScanned steps places at node k j →
+    IsScanned steps places at node (k + 1) j ⊎ (j ≡ k)
 seen_next steps places at node k j seen =
     elim seen [
       | inl before ↦ inl (inl before)
@@ -403,12 +403,12 @@ seen_next steps places at node k j seen =
     ]
 
 -- no step of the node is seen yet
-pub least_begun : (nodes : ℕ) (steps : List Step) (numbers places last before : List ℕ) (at node : ℕ) (least : Option Leaving) →
+pub least_begun : (nodes : ℕ) (steps : List ResidualArc) (numbers places last before : List ℕ) (at node : ℕ) (least : Option Leaving) →
     AreRows nodes (length steps) steps last before →
-    IsLeastLeaving (IsSeenBefore steps places at) steps numbers places least →
-    IsLeastLeaving (IsSeen steps places at node (slice_index last node)) steps numbers places least
+    IsLeastLeaving (IsScannedBefore steps places at) steps numbers places least →
+    IsLeastLeaving (IsScanned steps places at node (slice_index last node)) steps numbers places least
 least_begun nodes steps numbers places last before at node least rows was =
-    least_within steps numbers places (IsSeenBefore steps places at) (IsSeen steps places at node (slice_index last node)) least
+    least_within steps numbers places (IsScannedBefore steps places at) (IsScanned steps places at node (slice_index last node)) least
     (λ k slack leaves seen. elim seen [
       | inl seen_before ↦ seen_before
       | inr here ↦
@@ -417,13 +417,13 @@ least_begun nodes steps numbers places last before at node least rows was =
     ]) was
 
 -- the steps of the node between two entries of its row are none
-pub least_next : (nodes : ℕ) (steps : List Step) (numbers places last before : List ℕ) (at node k : ℕ) (least : Option Leaving) →
+pub least_next : (nodes : ℕ) (steps : List ResidualArc) (numbers places last before : List ℕ) (at node k : ℕ) (least : Option Leaving) →
     AreRows nodes (length steps) steps last before → k < length steps → (step_at steps k).from ≡ node →
-    IsLeastLeaving (IsSeen steps places at (step_at steps k).from k) steps numbers places least →
-    IsLeastLeaving (IsSeen steps places at node (slice_index before k)) steps numbers places least
+    IsLeastLeaving (IsScanned steps places at (step_at steps k).from k) steps numbers places least →
+    IsLeastLeaving (IsScanned steps places at node (slice_index before k)) steps numbers places least
 least_next nodes steps numbers places last before at node k least rows inside from was =
-    least_within steps numbers places (IsSeen steps places at (step_at steps k).from k)
-    (IsSeen steps places at node (slice_index before k)) least
+    least_within steps numbers places (IsScanned steps places at (step_at steps k).from k)
+    (IsScanned steps places at node (slice_index before k)) least
     (λ j slack leaves seen. elim seen [
       | inl seen_before ↦ inl seen_before
       | inr here ↦ elim (cases_lt j k) [
@@ -433,12 +433,12 @@ least_next nodes steps numbers places last before at node k least rows inside fr
     ]) was
 
 -- the steps of one entry more are seen
-pub least_entry : (nodes arcs reach : ℕ) (steps : List Step) (numbers places : List ℕ) (tree : List Reached) (at : ℕ) (least : Option Leaving) →
+pub least_entry : (nodes arcs reach : ℕ) (steps : List ResidualArc) (numbers places : List ℕ) (tree : List Reached) (at : ℕ) (least : Option Leaving) →
     AreStepsWithin nodes arcs reach steps → ArePlaced nodes tree places → at < length tree →
-    IsLeastLeaving (IsSeen steps places at (entry_at tree at).node 0) steps numbers places least →
-    IsLeastLeaving (IsSeenBefore steps places (at + 1)) steps numbers places least
+    IsLeastLeaving (IsScanned steps places at (entry_at tree at).node 0) steps numbers places least →
+    IsLeastLeaving (IsScannedBefore steps places (at + 1)) steps numbers places least
 least_entry nodes arcs reach steps numbers places tree at least all placed inside was =
-    least_within steps numbers places (IsSeen steps places at (entry_at tree at).node 0) (IsSeenBefore steps places (at + 1)) least
+    least_within steps numbers places (IsScanned steps places at (entry_at tree at).node 0) (IsScannedBefore steps places (at + 1)) least
     (λ k slack leaves seen. elim (cases_lt at (slice_index places (step_at steps k).from)) [
       | inl last ↦
           let within = all k leaves.inside in
@@ -449,18 +449,18 @@ least_entry nodes arcs reach steps numbers places tree at least all placed insid
     ]) was
 
 -- the steps of all entries are all that leave
-pub least_of_all : (nodes arcs reach : ℕ) (steps : List Step) (numbers places : List ℕ) (tree : List Reached) (count : ℕ) (least : Option Leaving) →
+pub least_of_all : (nodes arcs reach : ℕ) (steps : List ResidualArc) (numbers places : List ℕ) (tree : List Reached) (count : ℕ) (least : Option Leaving) →
     AreStepsWithin nodes arcs reach steps → ArePlaced nodes tree places → count ≡ length tree →
-    IsLeastLeaving (IsSeenBefore steps places count) steps numbers places least →
+    IsLeastLeaving (IsScannedBefore steps places count) steps numbers places least →
     IsLeastLeaving (λ k. k < length steps) steps numbers places least
 least_of_all nodes arcs reach steps numbers places tree count least all placed is was =
-    least_within steps numbers places (IsSeenBefore steps places count) (λ k. k < length steps) least
+    least_within steps numbers places (IsScannedBefore steps places count) (λ k. k < length steps) least
     (λ k slack leaves inside.
     let within = all k inside in
     omega (arith, is, placed.within (step_at steps k).from within.from)) was
 
 -- no step is seen yet
-pub least_none : (steps : List Step) (numbers places : List ℕ) → IsLeastLeaving (IsSeenBefore steps places 0) steps numbers places None
+pub least_none : (steps : List ResidualArc) (numbers places : List ℕ) → IsLeastLeaving (IsScannedBefore steps places 0) steps numbers places None
 least_none steps numbers places k slack seen leaves = omega (arith, seen, leaves.from)
 
 by_test : (b : Bool) (P Q : Type 0) → (b ≡ true → P) → (b ≡ false → Q) → MatchBool b P Q
@@ -468,7 +468,7 @@ by_test true P Q this that = this refl
 by_test false P Q this that = that refl
 
 -- slacks are low
-pub slack_low : (nodes arcs reach : ℕ) (steps : List Step) (amounts numbers want places : List ℕ) (k slack : ℕ) → (nodes - 1) * reach ≤ 2 ^ 42 →
+pub slack_low : (nodes arcs reach : ℕ) (steps : List ResidualArc) (amounts numbers want places : List ℕ) (k slack : ℕ) → (nodes - 1) * reach ≤ 2 ^ 42 →
     AreStepsWithin nodes arcs reach steps → k < length steps → AreFit nodes ((nodes - 1) * reach) steps amounts numbers want →
     IsLeaving steps numbers places k slack → slack ≤ 2 ^ 60
 slack_low nodes arcs reach steps amounts numbers want places k slack short all inside fit leaves =
@@ -476,12 +476,12 @@ slack_low nodes arcs reach steps amounts numbers want places k slack short all i
     omega (arith, short, end, leaves.just)
 
 -- fit numbers are low
-pub fit_low : (nodes reach : ℕ) (steps : List Step) (amounts numbers want : List ℕ) → (nodes - 1) * reach ≤ 2 ^ 42 →
+pub fit_low : (nodes reach : ℕ) (steps : List ResidualArc) (amounts numbers want : List ℕ) → (nodes - 1) * reach ≤ 2 ^ 42 →
     AreFit nodes ((nodes - 1) * reach) steps amounts numbers want → (v : ℕ) → v < nodes → height numbers v ≤ 2 ^ 60
 fit_low nodes reach steps amounts numbers want short fit v inside = omega (arith, short, fit.low v inside)
 
 -- a trap around the first node of a grown search is one around that of the search
-pub trap_grown : (nodes arcs : ℕ) (steps : List Step) (amounts want : List ℕ) (tree tree' : List Reached) (places places' : List ℕ) (marks : ℕ → ℕ) →
+pub trap_grown : (nodes arcs : ℕ) (steps : List ResidualArc) (amounts want : List ℕ) (tree tree' : List Reached) (places places' : List ℕ) (marks : ℕ → ℕ) →
     0 < length tree → Grows tree places tree' places' → IsTrap nodes arcs steps amounts want (entry_at tree' 0).node marks →
     IsTrap nodes arcs steps amounts want (entry_at tree 0).node marks
 trap_grown nodes arcs steps amounts want tree tree' places places' marks some grows trap =

@@ -6,10 +6,10 @@ use Rattle.shape_graphs.specs.declared.graph.Arc.{Arc}
 use Rattle.shape_graphs.specs.Arcs.{EndsAreNodes}
 use Rattle.shape_graphs.specs.Flows.{amount_at, IsSolution}
 use Rattle.shape_graphs.specs.Orders.{IsArcOrder}
-use Rattle.diff_flow.specs.declared.steps.Step.{Step}
+use Rattle.diff_flow.specs.declared.steps.ResidualArc.{ResidualArc}
 use Rattle.diff_flow.specs.Tight.{AreLeastTight}
-use Rattle.diff_flow.specs.Walks.{AreLongestWalks}
-use Rattle.diff_flow.specs.inner.Steps.{step_at, along_at, AreStepsWithin, ArePaired, AreStepsOf, AreInOrder, IsOpen, Meets}
+use Rattle.diff_flow.specs.Walks.{AreLongestWalkLengths}
+use Rattle.diff_flow.specs.inner.Steps.{step_at, along_at, AreStepsWithin, ArePaired, AreStepsOf, AreInOrder, IsResidual, MeetsStep}
 use Rattle.diff_flow.specs.inner.Numbers.{height, NoneMeet, IsLift, AreLeastMet, AreWalked}
 use Rattle.diff_flow.proofs.SetLemmas.{by_write}
 use Rattle.diff_flow.proofs.LabelLemmas.{zeros_low, raised_low_at}
@@ -17,7 +17,7 @@ use Rattle.diff_flow.proofs.RouteLemmas.{along_number}
 use Rattle.diff_flow.proofs.TightLemmas.{none_tight}
 
 -- arcs in order are steps in order
-pub in_order : (arcs : List Arc) (steps : List Step) (order : List ℕ) (m : ℕ) → AreStepsOf arcs steps → m ≡ length arcs →
+pub in_order : (arcs : List Arc) (steps : List ResidualArc) (order : List ℕ) (m : ℕ) → AreStepsOf arcs steps → m ≡ length arcs →
     IsArcOrder arcs order → AreInOrder m steps order
 in_order arcs steps order m are all is = record {
   inside = λ j j_in. omega (arith, is.in_graph j j_in, all);
@@ -28,23 +28,23 @@ in_order arcs steps order m are all is = record {
 }
 
 -- nothing is walked yet
-pub walked_first : (nodes limit : ℕ) (steps : List Step) (order : List ℕ) → AreWalked nodes steps limit order 0 (replicate {A = ℕ} nodes 0)
+pub walked_first : (nodes limit : ℕ) (steps : List ResidualArc) (order : List ℕ) → AreWalked nodes steps limit order 0 (replicate {A = ℕ} nodes 0)
 walked_first nodes limit steps order = record {
   low = zeros_low nodes limit steps [];
   met = λ j before. absurd (omega arith);
 }
 
-module _ (nodes arcs reach limit : ℕ) (steps : List Step) (order : List ℕ) (at : ℕ) (old : List ℕ) (all : AreStepsWithin nodes arcs reach steps)
+module _ (nodes arcs reach limit : ℕ) (steps : List ResidualArc) (order : List ℕ) (at : ℕ) (old : List ℕ) (all : AreStepsWithin nodes arcs reach steps)
     (paired : ArePaired arcs steps) (ordered : AreInOrder arcs steps order) (inside : at < length order)
     (walked : AreWalked nodes steps limit order at old) where
   number_in : 2 * slice_index order at < length steps
   number_in = omega (arith, ordered.inside at inside, paired.two_for_each)
 
-  pub walk_open : IsOpen [] (along_at steps (slice_index order at))
+  pub walk_open : IsResidual [] (along_at steps (slice_index order at))
   walk_open = omega (arith, paired.up (slice_index order at) (ordered.inside at inside))
 
   -- the step is met already
-  pub walked_kept : (new : List ℕ) → new ≡ old → Meets (height old) (along_at steps (slice_index order at)) →
+  pub walked_kept : (new : List ℕ) → new ≡ old → MeetsStep (height old) (along_at steps (slice_index order at)) →
       AreWalked nodes steps limit order (at + 1) new
   walked_kept new same meets =
       subst (AreWalked nodes steps limit order (at + 1)) (sym same)
@@ -54,32 +54,32 @@ module _ (nodes arcs reach limit : ℕ) (steps : List Step) (order : List ℕ) (
           | inl front ↦ walked.met j front
           | inr back ↦
               let here : at ≡ j = omega arith in
-              subst (λ i. Meets (height old) (along_at steps (slice_index order i))) here meets
+              subst (λ i. MeetsStep (height old) (along_at steps (slice_index order i))) here meets
         ];
       })
 
   -- the number at its end is raised: the steps that were met begin elsewhere
-  pub walked_raised : (step : Step) (new : List ℕ) (up : ℕ) → step ≡ along_at steps (slice_index order at) → IsLift step old new up → up ≤ limit →
+  pub walked_raised : (step : ResidualArc) (new : List ℕ) (up : ℕ) → step ≡ along_at steps (slice_index order at) → IsLift step old new up → up ≤ limit →
       AreWalked nodes steps limit order (at + 1) new
   walked_raised step new up is lifted within = record {
     low = raised_low_at nodes arcs reach steps [] limit old all walked.low (2 * slice_index order at) step number_in is
-        (subst (IsOpen []) (sym is) walk_open) new up lifted within;
+        (subst (IsResidual []) (sym is) walk_open) new up lifted within;
     met = λ j before. elim (cases_lt j at) [
       | inl front ↦
           let meets = walked.met j front in
           let from = kept (along_at steps (slice_index order j)).from
-          (λ same. let less = ordered.ends_before j at (omega (arith, front, inside)) inside (sym (same ∙ ap (λ (s : Step). s.to) is)) in omega (arith, less, front)) in
+          (λ same. let less = ordered.ends_before j at (omega (arith, front, inside)) inside (sym (same ∙ ap (λ (s : ResidualArc). s.to) is)) in omega (arith, less, front)) in
           let to = risen (along_at steps (slice_index order j)).to in
           omega (arith, meets, from, to)
       | inr back ↦
           let here : at ≡ j = omega arith in
-          subst (λ i. Meets (height new) (along_at steps (slice_index order i))) here
-          (subst (Meets (height new)) is just)
+          subst (λ i. MeetsStep (height new) (along_at steps (slice_index order i))) here
+          (subst (MeetsStep (height new)) is just)
     ];
   }
     where
       to_in : step.to < length old
-      to_in = omega (arith, ap (λ (s : Step). s.to) is, (all (2 * slice_index order at) number_in).to, walked.low.one_for_each)
+      to_in = omega (arith, ap (λ (s : ResidualArc). s.to) is, (all (2 * slice_index order at) number_in).to, walked.low.one_for_each)
 
       kept : (v : ℕ) → (v ≡ step.to → ⊥) → height new v ≡ height old v
       kept v apart = rw lifted.written (by_write (λ x. x ≡ height old v) old step.to v up to_in (λ same. absurd (apart same)) (λ _. refl))
@@ -91,15 +91,15 @@ module _ (nodes arcs reach limit : ℕ) (steps : List Step) (order : List ℕ) (
       end_is : height new step.to ≡ up
       end_is = rw lifted.written (by_write (λ x. x ≡ up) old step.to step.to up to_in (λ _. refl) (λ apart. absurd (apart refl)))
 
-      just : Meets (height new) step
+      just : MeetsStep (height new) step
       just =
           let from = kept step.from
           (λ same. let less = ordered.ends_before at at inside inside
-          (sym (ap (λ (s : Step). s.to) is) ∙ sym same ∙ ap (λ (s : Step). s.from) is) in omega (arith, less)) in
+          (sym (ap (λ (s : ResidualArc). s.to) is) ∙ sym same ∙ ap (λ (s : ResidualArc). s.from) is) in omega (arith, less)) in
           omega (arith, from, end_is, lifted.just)
 
 -- all steps along arcs are met
-pub walked_all : (nodes arcs limit : ℕ) (steps : List Step) (order numbers : List ℕ) (count : ℕ) → ArePaired arcs steps → AreInOrder arcs steps order →
+pub walked_all : (nodes arcs limit : ℕ) (steps : List ResidualArc) (order numbers : List ℕ) (count : ℕ) → ArePaired arcs steps → AreInOrder arcs steps order →
     count ≡ length order → AreWalked nodes steps limit order count numbers → AreLeastMet nodes steps [] limit numbers
 walked_all nodes arcs limit steps order numbers count paired ordered all walked = record {
   low = walked.low;
@@ -107,12 +107,12 @@ walked_all nodes arcs limit steps order numbers count paired ordered all walked 
       let none : amount_at [] (step_at steps k).arc ≡ 0 = refl in
       let number = along_number arcs steps paired k inside (omega (arith, opens, none)) in
       let found = ordered.has_each number.0 number.1 in
-      subst (λ j. Meets (height numbers) (step_at steps j)) (sym number.2)
-      (subst (λ i. Meets (height numbers) (along_at steps i)) found.2 (walked.met found.0 (omega (arith, all, found.1))));
+      subst (λ j. MeetsStep (height numbers) (step_at steps j)) (sym number.2)
+      (subst (λ i. MeetsStep (height numbers) (along_at steps i)) found.2 (walked.met found.0 (omega (arith, all, found.1))));
 }
 
 -- where the graph has a solution, numbers meet the steps along its arcs
-pub some_walks : (nodes : ℕ) (arcs : List Arc) (steps : List Step) (p : ℕ → ℤ) → EndsAreNodes nodes arcs → AreStepsOf arcs steps →
+pub some_walks : (nodes : ℕ) (arcs : List Arc) (steps : List ResidualArc) (p : ℕ → ℤ) → EndsAreNodes nodes arcs → AreStepsOf arcs steps →
     IsSolution arcs p → ((v : ℕ) → pos 0 ≤ℤ p v) → NoneMeet steps [] → ⊥
 some_walks nodes arcs steps p ends are solution from_zero none =
     none_tight nodes arcs steps [] ends are none p (record {
@@ -122,7 +122,7 @@ some_walks nodes arcs steps p ends are solution from_zero none =
     })
 
 -- the least numbers for the empty flow are the longest walks
-pub are_longest : (nodes : ℕ) (arcs : List Arc) (p : ℕ → ℤ) → AreLeastTight nodes arcs [] p → AreLongestWalks nodes arcs p
+pub are_longest : (nodes : ℕ) (arcs : List Arc) (p : ℕ → ℤ) → AreLeastTight nodes arcs [] p → AreLongestWalkLengths nodes arcs p
 are_longest nodes arcs p least = record {
   from_zero = least.tight.from_zero;
   solution = least.tight.solution;

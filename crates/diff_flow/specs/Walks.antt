@@ -7,19 +7,19 @@ use Rattle.diff_flow.specs.Tight.{AreLeastTight}
 
 -- the least numbers from zero upward that solve the graph: for each node the length of a longest
 -- walk to it
-pub record AreLongestWalks (nodes : ℕ) (arcs : List Arc) (numbers : ℕ → ℤ) : Type 0 where
+pub record AreLongestWalkLengths (nodes : ℕ) (arcs : List Arc) (numbers : ℕ → ℤ) : Type 0 where
   pub from_zero : (node : ℕ) → node < nodes → pos 0 ≤ℤ numbers node
   pub solution : IsSolution arcs numbers
   pub least : (others : ℕ → ℤ) → ((node : ℕ) → node < nodes → pos 0 ≤ℤ others node) →
       IsSolution arcs others → (node : ℕ) → node < nodes → numbers node ≤ℤ others node
 
 -- one number for each node of the graph, the length of a longest walk to it
-pub record AreWalksOf (graph : DiffGraph) (walks : List ℕ) : Type 0 where
+pub record AreWalkLengthsOf (graph : DiffGraph) (walks : List ℕ) : Type 0 where
   pub one_for_each : length walks ≡ graph.nodes
-  pub longest : AreLongestWalks graph.nodes graph.arcs (λ v. pos (slice_index walks v))
+  pub longest : AreLongestWalkLengths graph.nodes graph.arcs (λ v. pos (slice_index walks v))
 
 -- the second graph has one arc more, at its end
-pub record IsOneMore (graph more : DiffGraph) : Type 0 where
+pub record HasOneMoreArc (graph more : DiffGraph) : Type 0 where
   pub nodes : more.nodes ≡ graph.nodes
   pub last : Arc
   pub arcs : more.arcs ≡ graph.arcs ++ last ∷ []

@@ -10,8 +10,8 @@ ghost use Rattle.diff_flow.specs.inner.Routing.{IsDetour, IsSlack, net_by};
 
 use crate::search::spread;
 use crate::sending::send;
-use crate::steps::{Step, Steps};
-use crate::tree::{Tree, plant};
+use crate::steps::{ResidualArc, Steps};
+use crate::tree::{SearchTree, plant};
 use compact_types::NoMemory;
 use std::alloc::Global;
 
@@ -39,7 +39,7 @@ pub(crate) fn detour(
     let step = steps.along(i);
     let mut want = vec![in alloc; 0u128; steps.nodes as usize]?;
     want[step.to as usize] = 1;
-    let mut tree = Tree::blank(alloc, steps.nodes)?;
+    let mut tree = SearchTree::blank(alloc, steps.nodes)?;
     plant(step.from, 1, steps.nodes, &mut tree)?;
     if !spread(steps, amounts, numbers, want.as_slice(), &mut tree)? {
         unreachable!()

@@ -1,10 +1,11 @@
 //! The steps and the longest walks of a graph that has got one arc more at its end, and numbers to
 //! begin with there.
 
-ghost use Rattle.std.specs.Prelude.{◌≡◌, ◌<◌, ◌≤◌, ◌-◌, ◌*◌, ℕ, pos, ◌≤ℤ◌, length, IfOk, MatchOption, OnErr};
+ghost use Rattle.std.specs.Prelude.{◌≡◌, ◌<◌, ◌≤◌, ◌-◌, ◌*◌, ℕ, pos, ◌≤ℤ◌, length, IfOk};
+ghost use Rattle.std.specs.Prelude.{MatchOption, OnErr};
 ghost use Rattle.shape_graphs.specs.Flows.{number_at};
 ghost use Rattle.shape_graphs.specs.Paths.{HasCycle};
-ghost use Rattle.diff_flow.specs.Walks.{AreLeastBefore, IsOneMore};
+ghost use Rattle.diff_flow.specs.Walks.{AreLeastBefore, HasOneMoreArc};
 ghost use Rattle.diff_flow.specs.inner.Networks.{AreMadeFor};
 ghost use Rattle.diff_flow.specs.inner.Numbers.{height};
 ghost use Rattle.diff_flow.specs.inner.Routing.{AreFirst};
@@ -25,7 +26,7 @@ pub(crate) fn grow(
     steps: &mut Steps,
     walks: &[u64],
 ) -> Result<Option<Items<u64>>, NoMemory>
-    requires more { IsOneMore before.now.value graph.now }
+    requires more { HasOneMoreArc before.now.value graph.now }
     requires made { AreMadeFor before.now.value steps.old walks.now }
     ensures grown { IfOk result (λ found. MatchOption found
         ((HasCycle graph.now.arcs) × AreMadeFor before.now.value steps.new walks.now)

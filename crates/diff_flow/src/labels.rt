@@ -9,11 +9,11 @@ ghost use Rattle.std.specs.Prelude.{[], length, replicate, slice_index, IfOk};
 ghost use Rattle.std.specs.Prelude.{sum, MatchBool, MatchOption};
 ghost use Rattle.diff_flow.specs.inner.Steps.{step_at};
 ghost use Rattle.diff_flow.specs.inner.Numbers.{
-  AreFrom,
   AreLate,
   AreLeastMet,
   AreListed,
-  IsIn,
+  IsAtLeast,
+  IsInList,
   Lifts,
   NoneLate,
   NoneMeet,
@@ -22,7 +22,7 @@ ghost use Rattle.diff_flow.specs.inner.Numbers.{
 };
 
 use crate::slack::is_slack;
-use crate::steps::{Step, Steps};
+use crate::steps::{ResidualArc, Steps};
 use compact_types::NoMemory;
 use std::alloc::Global;
 use std::collections::VecDeque;
@@ -96,10 +96,10 @@ fn wait_where_slack(
     requires amounts { length amounts.now ≡ steps.now.arcs }
     requires rises { Rises steps.now.nodes steps.now.list.items amounts.now
         ((steps.now.nodes - 1) * steps.now.reach) walks.now waits.old queue.old.items
-        (AreFrom i) }
+        (IsAtLeast i) }
     ensures rises { IfOk result (λ _. Rises steps.now.nodes steps.now.list.items amounts.now
         ((steps.now.nodes - 1) * steps.now.reach) walks.now waits.new queue.new.items
-        (AreFrom (i + 1))) }
+        (IsAtLeast (i + 1))) }
 {
     let step = steps.along(i);
     if is_slack(step, amounts[i], walks) {
@@ -227,7 +227,7 @@ pub(crate) enum Lifted {
 }
 
 /// Raises the number at the end of the step, where it is open, until it just meets the step.
-pub(crate) fn lift(step: Step, amount: u64, limit: u64, numbers: &mut [u64]) -> Lifted
+pub(crate) fn lift(step: ResidualArc, amount: u64, limit: u64, numbers: &mut [u64]) -> Lifted
     requires from { step.from < length numbers.old }
     requires to { step.to < length numbers.old }
     requires from_low { slice_index numbers.old step.from ≤ 2 ^ 60 }
@@ -253,8 +253,8 @@ pub(crate) fn wait(node: u32, waits: &mut [u8], queue: &mut VecDeque<u32>) -> Re
     requires lists { AreListed (length waits.old) waits.old queue.old.items }
     ensures waits { IfOk result (λ _.
         Waits (length waits.old) node waits.old queue.old.items waits.new queue.new.items) }
-    ensures only { IfOk result (λ _. (v : ℕ) → IsIn queue.new.items v →
-        (v ≡ node) ⊎ IsIn queue.old.items v) }
+    ensures only { IfOk result (λ _. (v : ℕ) → IsInList queue.new.items v →
+        (v ≡ node) ⊎ IsInList queue.old.items v) }
 {
     if waits[node as usize] == 0 {
         queue.push_back(node)?;

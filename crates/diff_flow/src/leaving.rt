@@ -8,12 +8,12 @@ ghost use Rattle.diff_flow.specs.inner.Search.{
   ArePlaced,
   IsLeastLeaving,
   IsLesser,
-  IsSeen,
-  IsSeenBefore,
+  IsScanned,
+  IsScannedBefore,
 };
 
 use crate::steps::Steps;
-use crate::tree::Tree;
+use crate::tree::SearchTree;
 
 /// A step that leads along an arc from a reached node to one that is not, and by how much the
 /// numbers more than meet it.
@@ -25,7 +25,7 @@ pub(crate) struct Leaving {
 
 /// Of the steps along arcs from a reached node to one that is not the one with the least slack;
 /// `None` exactly where there is none. Only the steps of reached nodes are looked at.
-pub(crate) fn least_leaving(steps: &Steps, numbers: &[u64], tree: &Tree) -> Option<Leaving>
+pub(crate) fn least_leaving(steps: &Steps, numbers: &[u64], tree: &SearchTree) -> Option<Leaving>
     requires numbers { length numbers.now ≡ steps.now.nodes }
     requires placed { ArePlaced steps.now.nodes tree.now.entries.items tree.now.places.items }
     requires low { (v : ℕ) → v < steps.now.nodes → height numbers.now v ≤ 2 ^ 60 }
@@ -60,9 +60,9 @@ fn lesser_from(
         height numbers.now (along_at steps.now.list.items i).from
         + (along_at steps.now.list.items i).up
         ≤ height numbers.now (along_at steps.now.list.items i).to }
-    ensures { (at : ℕ) → IsLeastLeaving (IsSeenBefore steps.now.list.items places.now at)
+    ensures { (at : ℕ) → IsLeastLeaving (IsScannedBefore steps.now.list.items places.now at)
         steps.now.list.items numbers.now places.now least →
-        IsLeastLeaving (IsSeen steps.now.list.items places.now at node 0)
+        IsLeastLeaving (IsScanned steps.now.list.items places.now at node 0)
         steps.now.list.items numbers.now places.now result }
 {
     let mut lesser = least;
@@ -91,10 +91,10 @@ fn lesser_leaving(
         height numbers.now (along_at steps.now.list.items i).from
         + (along_at steps.now.list.items i).up
         ≤ height numbers.now (along_at steps.now.list.items i).to }
-    ensures { (at : ℕ) → IsLeastLeaving (IsSeen steps.now.list.items places.now at
+    ensures { (at : ℕ) → IsLeastLeaving (IsScanned steps.now.list.items places.now at
         (step_at steps.now.list.items k).from (k + 1))
         steps.now.list.items numbers.now places.now least →
-        IsLeastLeaving (IsSeen steps.now.list.items places.now at
+        IsLeastLeaving (IsScanned steps.now.list.items places.now at
         (step_at steps.now.list.items k).from k)
         steps.now.list.items numbers.now places.now result }
 {

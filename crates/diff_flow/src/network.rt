@@ -6,7 +6,7 @@ ghost use Rattle.shape_graphs.specs.Flows.{Balances, IsBestFlow, number_at};
 ghost use Rattle.shape_graphs.specs.Paths.{HasCycle};
 ghost use Rattle.diff_flow.specs.Amounts.{IsFlowOn};
 ghost use Rattle.diff_flow.specs.Tight.{AreLeastTight, AreTight};
-ghost use Rattle.diff_flow.specs.Walks.{AreLeastBefore, AreWalksOf, IsOneMore};
+ghost use Rattle.diff_flow.specs.Walks.{AreLeastBefore, AreWalkLengthsOf, HasOneMoreArc};
 
 use crate::better::find_better;
 use crate::growing::{first_numbers, grow};
@@ -121,11 +121,11 @@ impl Network {
     /// and without memory, the network stays as it was. Only nodes whose longest walks grow are
     /// visited.
     pub fn add(&mut self, alloc: Global, graph: &DiffGraph) -> Result<Option<Items<u64>>, NoMemory>
-        requires { IsOneMore self.old graph.now }
+        requires { HasOneMoreArc self.old graph.now }
         ensures added { IfOk result (λ found. MatchOption found
             ((HasCycle graph.now.arcs) × (self.new ≡ self.old))
             (λ walks. (self.new ≡ graph.now) × (HasCycle graph.now.arcs → ⊥)
-            × AreWalksOf self.old walks)) }
+            × AreWalkLengthsOf self.old walks)) }
         ensures refused { OnErr result (self.new ≡ self.old) }
     {
         let walks = self.walks.as_slice();
@@ -139,8 +139,8 @@ impl Network {
     /// Follows its graph, whose last arc was taken away. `walks` are the longest walks of the
     /// graph, as `add` answered them.
     pub fn take_away(&mut self, graph: &DiffGraph, walks: Items<u64>)
-        requires fewer { IsOneMore graph.now self.old }
-        requires walks { AreWalksOf graph.now walks }
+        requires fewer { HasOneMoreArc graph.now self.old }
+        requires walks { AreWalkLengthsOf graph.now walks }
         ensures { self.new ≡ graph.now }
     {
         self.steps.pop();

@@ -8,11 +8,12 @@ ghost use Rattle.shape_graphs.specs.declared.graph.TheConstants.{MOST_AMOUNT};
 ghost use Rattle.diff_flow.specs.inner.Steps.{AreMet, along_at};
 ghost use Rattle.diff_flow.specs.inner.Numbers.{height};
 ghost use Rattle.diff_flow.specs.inner.Search.{IsBlank};
-ghost use Rattle.diff_flow.specs.inner.Routing.{AreDropped, AreGiven, IsKept, IsSpread, net_by};
+ghost use Rattle.diff_flow.specs.inner.Routing.{AreDropped, AreGiven, IsSpread, KeepsBalance};
+ghost use Rattle.diff_flow.specs.inner.Routing.{net_by};
 
 use crate::sending::send_all;
 use crate::steps::Steps;
-use crate::tree::Tree;
+use crate::tree::SearchTree;
 use compact_types::{Items, NoMemory};
 use std::alloc::Global;
 
@@ -46,7 +47,7 @@ pub(crate) fn route(
     let mut amounts = widened(alloc, given)?;
     let mut over = vec![in alloc; 0u128; steps.nodes as usize]?;
     let mut want = vec![in alloc; 0u128; steps.nodes as usize]?;
-    let mut tree = Tree::blank(alloc, steps.nodes)?;
+    let mut tree = SearchTree::blank(alloc, steps.nodes)?;
     reroute(
         steps,
         amounts.as_mut_slice(),
@@ -66,7 +67,7 @@ fn reroute(
     numbers: &mut [u64],
     over: &mut [u128],
     want: &mut [u128],
-    tree: &mut Tree,
+    tree: &mut SearchTree,
 ) -> Result<(), NoMemory>
     requires blank { IsBlank steps.now.nodes tree.old.entries.items tree.old.places.items }
     requires numbers { length numbers.old ≡ steps.now.nodes }
@@ -135,7 +136,7 @@ fn drop_all(
         amounts.old over.old want.old }
     ensures dropped { AreDropped steps.now.nodes steps.now.arcs steps.now.arcs
         steps.now.list.items numbers.now amounts.new over.new want.new }
-    ensures kept { IsKept steps.now.nodes steps.now.arcs steps.now.list.items
+    ensures kept { KeepsBalance steps.now.nodes steps.now.arcs steps.now.list.items
         amounts.old over.old want.old amounts.new over.new want.new }
 {
     for i in 0..steps.arcs {
@@ -160,7 +161,7 @@ fn drop_slack(
         amounts.old over.old want.old }
     ensures dropped { AreDropped steps.now.nodes steps.now.arcs (i + 1) steps.now.list.items
         numbers.now amounts.new over.new want.new }
-    ensures kept { IsKept steps.now.nodes steps.now.arcs steps.now.list.items
+    ensures kept { KeepsBalance steps.now.nodes steps.now.arcs steps.now.list.items
         amounts.old over.old want.old amounts.new over.new want.new }
     ensures tight { height numbers.now (along_at steps.now.list.items i).to
         ≡ height numbers.now (along_at steps.now.list.items i).from

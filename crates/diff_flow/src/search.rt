@@ -5,19 +5,19 @@
 
 ghost use Rattle.std.specs.Prelude.{◌≡◌, ◌↔◌, ◌≤◌, ◌<◌, ◌+◌, ◌-◌, ◌*◌, ◌^◌, ℕ};
 ghost use Rattle.std.specs.Prelude.{length, slice_index, IfOk, IsTrue, MatchBool};
-ghost use Rattle.diff_flow.specs.declared.steps.Step.{Step};
+ghost use Rattle.diff_flow.specs.declared.steps.ResidualArc.{ResidualArc};
 ghost use Rattle.diff_flow.specs.inner.Steps.{step_at};
 ghost use Rattle.diff_flow.specs.inner.Numbers.{height};
 ghost use Rattle.diff_flow.specs.inner.Search.{
   AreFit,
-  ArePassed,
-  ArePassedFrom,
+  AreFollowed,
+  AreFollowedFrom,
   ArePlaced,
   entry_at,
   Grows,
   IsBlank,
+  IsFollowed,
   IsPassable,
-  IsPassed,
   IsTrap,
   IsTree,
   NoneLacks,
@@ -26,8 +26,8 @@ ghost use Rattle.diff_flow.specs.inner.Search.{
 };
 
 use crate::leaving::least_leaving;
-use crate::steps::{Step, Steps};
-use crate::tree::{Tree, enter, plant};
+use crate::steps::{ResidualArc, Steps};
+use crate::tree::{SearchTree, enter, plant};
 use compact_types::NoMemory;
 
 /// Finds a way from `start` to a node that lacks, along which up to `most` can be sent; raises
@@ -39,7 +39,7 @@ pub(crate) fn find(
     amounts: &[u128],
     numbers: &mut [u64],
     want: &[u128],
-    tree: &mut Tree,
+    tree: &mut SearchTree,
 ) -> Result<(), NoMemory>
     requires start { start < steps.now.nodes }
     requires some { 0 < most }
@@ -76,7 +76,7 @@ fn grow(
     amounts: &[u128],
     numbers: &mut [u64],
     want: &[u128],
-    tree: &mut Tree,
+    tree: &mut SearchTree,
 ) -> Result<bool, NoMemory>
     requires amounts { length amounts.now ≡ steps.now.arcs }
     requires wants { length want.now ≡ steps.now.nodes }
@@ -113,7 +113,7 @@ pub(crate) fn spread(
     amounts: &[u128],
     numbers: &[u64],
     want: &[u128],
-    tree: &mut Tree,
+    tree: &mut SearchTree,
 ) -> Result<bool, NoMemory>
     requires amounts { length amounts.now ≡ steps.now.arcs }
     requires numbers { length numbers.now ≡ steps.now.nodes }
@@ -129,7 +129,7 @@ pub(crate) fn spread(
     ensures found { IfOk result (Searches want.now tree.old.entries.items tree.new.entries.items
         tree.new.places.items) }
     ensures passed { IfOk result (λ found. MatchBool found (Unit {0})
-        (ArePassed steps.now.list.items amounts.now numbers.now tree.new.entries.items
+        (AreFollowed steps.now.list.items amounts.now numbers.now tree.new.entries.items
         tree.new.places.items (length tree.new.entries.items))) }
 {
     let mut at = 0;
@@ -149,7 +149,7 @@ fn reach_from(
     amounts: &[u128],
     numbers: &[u64],
     want: &[u128],
-    tree: &mut Tree,
+    tree: &mut SearchTree,
 ) -> Result<bool, NoMemory>
     requires at { at < length tree.old.entries.items }
     requires amounts { length amounts.now ≡ steps.now.arcs }
@@ -166,7 +166,7 @@ fn reach_from(
     ensures found { IfOk result (Searches want.now tree.old.entries.items tree.new.entries.items
         tree.new.places.items) }
     ensures passed { IfOk result (λ found. MatchBool found (Unit {0})
-        (ArePassedFrom steps.now.list.items amounts.now numbers.now tree.new.places.items
+        (AreFollowedFrom steps.now.list.items amounts.now numbers.now tree.new.places.items
         (entry_at tree.old.entries.items at).node 0)) }
 {
     let node = tree.entries[at].node;
@@ -188,7 +188,7 @@ fn reach(
     amounts: &[u128],
     numbers: &[u64],
     want: &[u128],
-    tree: &mut Tree,
+    tree: &mut SearchTree,
 ) -> Result<bool, NoMemory>
     requires inside { k < length steps.now.list.items }
     requires amounts { length amounts.now ≡ steps.now.arcs }
@@ -206,7 +206,7 @@ fn reach(
     ensures found { IfOk result (Searches want.now tree.old.entries.items tree.new.entries.items
         tree.new.places.items) }
     ensures passed { IfOk result (λ _.
-        IsPassed steps.now.list.items amounts.now numbers.now tree.new.places.items k) }
+        IsFollowed steps.now.list.items amounts.now numbers.now tree.new.places.items k) }
 {
     let step = steps.at(k);
     if tree.places[step.to as usize] > 0 {
@@ -220,7 +220,7 @@ fn reach(
 }
 
 /// Whether amounts can be sent over the step.
-fn is_passable(step: Step, amounts: &[u128], numbers: &[u64]) -> bool
+fn is_passable(step: ResidualArc, amounts: &[u128], numbers: &[u64]) -> bool
     requires from { step.from < length numbers.now }
     requires to { step.to < length numbers.now }
     requires arc { step.arc < length amounts.now }
@@ -241,7 +241,7 @@ fn turn(
     amounts: &[u128],
     numbers: &mut [u64],
     want: &[u128],
-    tree: &mut Tree,
+    tree: &mut SearchTree,
 ) -> Result<bool, NoMemory>
     requires amounts { length amounts.now ≡ steps.now.arcs }
     requires wants { length want.now ≡ steps.now.nodes }
@@ -250,8 +250,8 @@ fn turn(
     requires tree { IsTree steps.now.nodes steps.now.list.items amounts.now numbers.old
         tree.old.entries.items tree.old.places.items }
     requires none { NoneLacks want.now tree.old.places.items }
-    requires passed { ArePassed steps.now.list.items amounts.now numbers.old tree.old.entries.items
-        tree.old.places.items (length tree.old.entries.items) }
+    requires passed { AreFollowed steps.now.list.items amounts.now numbers.old
+        tree.old.entries.items tree.old.places.items (length tree.old.entries.items) }
     requires no_trap { (marks : ℕ → ℕ) →
         IsTrap steps.now.nodes steps.now.arcs steps.now.list.items amounts.now want.now
         (entry_at tree.old.entries.items 0).node marks → ⊥ }
@@ -277,7 +277,7 @@ fn turn(
 }
 
 /// Raises the numbers of the reached nodes.
-fn raise_reached(by: u64, tree: &Tree, numbers: &mut [u64])
+fn raise_reached(by: u64, tree: &SearchTree, numbers: &mut [u64])
     requires by { by ≤ 2 ^ 60 }
     requires placed { ArePlaced (length numbers.old) tree.now.entries.items tree.now.places.items }
     requires low { (v : ℕ) → v < length numbers.old → height numbers.old v ≤ 2 ^ 60 }

@@ -4,11 +4,11 @@ ghost use Rattle.std.specs.Prelude.{◌≡◌, ◌≤◌, ◌<◌, ◌+◌, ◌-
 ghost use Rattle.std.specs.Prelude.{length, slice_index, IfOk};
 ghost use Rattle.shape_graphs.specs.Flows.{amount_at};
 ghost use Rattle.diff_flow.specs.inner.Search.{entry_at, IsBlank, IsTree};
-ghost use Rattle.diff_flow.specs.inner.Routing.{IsKept, IsMoved, IsRouting, IsSent};
+ghost use Rattle.diff_flow.specs.inner.Routing.{IsMoved, IsRouting, IsSent, KeepsBalance};
 
 use crate::search::find;
-use crate::steps::{Step, Steps};
-use crate::tree::{Tree, clear};
+use crate::steps::{ResidualArc, Steps};
+use crate::tree::{SearchTree, clear};
 use compact_types::NoMemory;
 
 /// Sends the excess of all nodes to where they lack.
@@ -18,7 +18,7 @@ pub(crate) fn send_all(
     numbers: &mut [u64],
     over: &mut [u128],
     want: &mut [u128],
-    tree: &mut Tree,
+    tree: &mut SearchTree,
 ) -> Result<(), NoMemory>
     requires blank { IsBlank steps.now.nodes tree.old.entries.items tree.old.places.items }
     requires routing { IsRouting steps.now.nodes steps.now.arcs
@@ -27,7 +27,8 @@ pub(crate) fn send_all(
     ensures routing { IfOk result (λ _. IsRouting steps.now.nodes steps.now.arcs
         ((steps.now.nodes - 1) * steps.now.reach) steps.now.list.items
         amounts.new numbers.new over.new want.new) }
-    ensures kept { IfOk result (λ _. IsKept steps.now.nodes steps.now.arcs steps.now.list.items
+    ensures kept { IfOk result (λ _.
+        KeepsBalance steps.now.nodes steps.now.arcs steps.now.list.items
         amounts.old over.old want.old amounts.new over.new want.new) }
     ensures blank { IfOk result (λ _.
         IsBlank steps.now.nodes tree.new.entries.items tree.new.places.items) }
@@ -47,7 +48,7 @@ fn send_from(
     numbers: &mut [u64],
     over: &mut [u128],
     want: &mut [u128],
-    tree: &mut Tree,
+    tree: &mut SearchTree,
 ) -> Result<(), NoMemory>
     requires blank { IsBlank steps.now.nodes tree.old.entries.items tree.old.places.items }
     requires node { node < steps.now.nodes }
@@ -57,7 +58,8 @@ fn send_from(
     ensures routing { IfOk result (λ _. IsRouting steps.now.nodes steps.now.arcs
         ((steps.now.nodes - 1) * steps.now.reach) steps.now.list.items
         amounts.new numbers.new over.new want.new) }
-    ensures kept { IfOk result (λ _. IsKept steps.now.nodes steps.now.arcs steps.now.list.items
+    ensures kept { IfOk result (λ _.
+        KeepsBalance steps.now.nodes steps.now.arcs steps.now.list.items
         amounts.old over.old want.old amounts.new over.new want.new) }
     ensures blank { IfOk result (λ _.
         IsBlank steps.now.nodes tree.new.entries.items tree.new.places.items) }
@@ -78,7 +80,7 @@ fn send_once(
     numbers: &mut [u64],
     over: &mut [u128],
     want: &mut [u128],
-    tree: &mut Tree,
+    tree: &mut SearchTree,
 ) -> Result<(), NoMemory>
     requires blank { IsBlank steps.now.nodes tree.old.entries.items tree.old.places.items }
     requires node { node < steps.now.nodes }
@@ -89,7 +91,8 @@ fn send_once(
     ensures routing { IfOk result (λ _. IsRouting steps.now.nodes steps.now.arcs
         ((steps.now.nodes - 1) * steps.now.reach) steps.now.list.items
         amounts.new numbers.new over.new want.new) }
-    ensures kept { IfOk result (λ _. IsKept steps.now.nodes steps.now.arcs steps.now.list.items
+    ensures kept { IfOk result (λ _.
+        KeepsBalance steps.now.nodes steps.now.arcs steps.now.list.items
         amounts.old over.old want.old amounts.new over.new want.new) }
     ensures blank { IfOk result (λ _.
         IsBlank steps.now.nodes tree.new.entries.items tree.new.places.items) }
@@ -115,7 +118,13 @@ fn send_once(
 }
 
 /// Sends the amount along the way to the last entry of the tree.
-pub(crate) fn send(steps: &Steps, numbers: &[u64], tree: &Tree, amount: u128, amounts: &mut [u128])
+pub(crate) fn send(
+    steps: &Steps,
+    numbers: &[u64],
+    tree: &SearchTree,
+    amount: u128,
+    amounts: &mut [u128],
+)
     requires amounts { length amounts.old ≡ steps.now.arcs }
     requires low { (i : ℕ) → i < steps.now.arcs → amount_at amounts.old i + amount < 2 ^ 128 }
     requires tree { IsTree steps.now.nodes steps.now.list.items amounts.old numbers.now
@@ -136,7 +145,7 @@ pub(crate) fn send(steps: &Steps, numbers: &[u64], tree: &Tree, amount: u128, am
 }
 
 /// Sends the amount over the step.
-fn pass(step: Step, amount: u128, amounts: &mut [u128])
+fn pass(step: ResidualArc, amount: u128, amounts: &mut [u128])
     requires arc { step.arc < length amounts.old }
     requires along { 0 < step.up → amount_at amounts.old step.arc + amount < 2 ^ 128 }
     requires against { step.up ≡ 0 → amount ≤ amount_at amounts.old step.arc }

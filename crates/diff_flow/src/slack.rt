@@ -6,7 +6,7 @@ ghost use Rattle.diff_flow.specs.inner.Steps.{AreMet, along_at};
 ghost use Rattle.diff_flow.specs.inner.Numbers.{height};
 ghost use Rattle.diff_flow.specs.inner.Routing.{IsSlack};
 
-use crate::steps::{Step, Steps};
+use crate::steps::{ResidualArc, Steps};
 
 /// An arc with an amount that is not tight; `None` exactly where the numbers meet all open steps,
 /// so that they prove the flow best.
@@ -31,7 +31,7 @@ pub(crate) fn slack_arc(steps: &Steps, amounts: &[u64], numbers: &[u64]) -> Opti
 }
 
 /// Whether the step's arc has an amount, and the numbers more than meet it.
-pub(crate) fn is_slack(step: Step, amount: u64, numbers: &[u64]) -> bool
+pub(crate) fn is_slack(step: ResidualArc, amount: u64, numbers: &[u64]) -> bool
     requires from { step.from < length numbers.now }
     requires to { step.to < length numbers.now }
     requires low { slice_index numbers.now step.from ≤ 2 ^ 60 }

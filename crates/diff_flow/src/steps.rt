@@ -12,8 +12,8 @@ ghost use Rattle.diff_flow.specs.inner.Steps.{
   AreRows,
   AreStepsOf,
   AreStepsWithin,
-  IsAgainst,
-  IsAlong,
+  IsAgainstArc,
+  IsAlongArc,
   IsStepWithin,
   along_at,
   step_at,
@@ -26,7 +26,7 @@ use std::alloc::Global;
 /// That the number of `to` and `down` is at least that of `from` and `up`. Along an arc `up` is its
 /// least, against it `down` is.
 #[derive(Clone, Copy)]
-pub(crate) struct Step {
+pub(crate) struct ResidualArc {
     pub(crate) from: u32,
     pub(crate) to: u32,
     pub(crate) arc: u32,
@@ -41,7 +41,7 @@ pub(crate) struct Steps {
     pub(crate) nodes: u32,
     pub(crate) arcs: usize,
     pub(crate) reach: u32,
-    pub(crate) list: Vec<Step>,
+    pub(crate) list: Vec<ResidualArc>,
     pub(crate) rows: Rows,
     pub(crate) ghost few: { length list.items ≤ 2_000_000_000 },
     pub(crate) ghost low: { reach ≤ 1000 },
@@ -54,7 +54,7 @@ pub(crate) struct Steps {
 
 impl Steps {
     /// The step of this number.
-    pub(crate) fn at(&self, number: usize) -> Step
+    pub(crate) fn at(&self, number: usize) -> ResidualArc
         requires { number < length self.now.list.items }
         ensures is { result ≡ step_at self.now.list.items number }
         ensures within { IsStepWithin self.now.nodes self.now.arcs self.now.reach result }
@@ -63,7 +63,7 @@ impl Steps {
     }
 
     /// The step along the arc of this number.
-    pub(crate) fn along(&self, arc: usize) -> Step
+    pub(crate) fn along(&self, arc: usize) -> ResidualArc
         requires { arc < self.now.arcs }
         ensures is { result ≡ along_at self.now.list.items arc }
         ensures within { IsStepWithin self.now.nodes self.now.arcs self.now.reach result }
@@ -211,7 +211,7 @@ fn least_of(arc: Arc) -> u32
 }
 
 /// For each arc the step along it, and then the one against it.
-fn list_of(alloc: Global, arcs: &[Arc]) -> Result<Vec<Step>, NoMemory>
+fn list_of(alloc: Global, arcs: &[Arc]) -> Result<Vec<ResidualArc>, NoMemory>
     requires few { length arcs.now ≤ MOST_ARCS }
     requires within { AreArcsWithin arcs.now }
     ensures { IfOk result (λ list. AreStepsOf arcs.now list.items) }
@@ -225,7 +225,7 @@ fn list_of(alloc: Global, arcs: &[Arc]) -> Result<Vec<Step>, NoMemory>
 
 /// Adds the two steps of the arc of this number at the end. Without memory the list stays as it
 /// was.
-fn push_steps(list: &mut Vec<Step>, arc: Arc, number: u32) -> Result<(), NoMemory>
+fn push_steps(list: &mut Vec<ResidualArc>, arc: Arc, number: u32) -> Result<(), NoMemory>
     requires { IsArcWithin arc }
     ensures ok { OnOk result (AreOneMore arc number list.old.items list.new.items) }
     ensures err { OnErr result (list.new.items ≡ list.old.items) }
@@ -239,11 +239,11 @@ fn push_steps(list: &mut Vec<Step>, arc: Arc, number: u32) -> Result<(), NoMemor
 }
 
 /// The step along the arc of this number.
-fn along(arc: Arc, number: u32) -> Step
+fn along(arc: Arc, number: u32) -> ResidualArc
     requires { IsArcWithin arc }
-    ensures { IsAlong arc number result }
+    ensures { IsAlongArc arc number result }
 {
-    Step {
+    ResidualArc {
         from: arc.from,
         to: arc.to,
         arc: number,
@@ -253,11 +253,11 @@ fn along(arc: Arc, number: u32) -> Step
 }
 
 /// The step against the arc of this number.
-fn against(arc: Arc, number: u32) -> Step
+fn against(arc: Arc, number: u32) -> ResidualArc
     requires { IsArcWithin arc }
-    ensures { IsAgainst arc number result }
+    ensures { IsAgainstArc arc number result }
 {
-    Step {
+    ResidualArc {
         from: arc.to,
         to: arc.from,
         arc: number,
@@ -267,7 +267,7 @@ fn against(arc: Arc, number: u32) -> Step
 }
 
 /// Rows of the steps by the node that they begin at.
-fn rows_of(alloc: Global, nodes: u32, list: &[Step]) -> Result<Rows, NoMemory>
+fn rows_of(alloc: Global, nodes: u32, list: &[ResidualArc]) -> Result<Rows, NoMemory>
     requires few { length list.now ≤ 2_000_000_000 }
     requires inside { (k : ℕ) → k < length list.now → (step_at list.now k).from < nodes }
     ensures { IfOk result (λ rows.

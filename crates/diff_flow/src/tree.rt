@@ -3,7 +3,7 @@
 ghost use Rattle.std.specs.Prelude.{◌≡◌, ◌≤◌, ◌<◌, ◌-◌, ℕ};
 ghost use Rattle.std.specs.Prelude.{length, slice_index, IfOk, List};
 ghost use Rattle.diff_flow.specs.declared.tree.Reached.{Reached};
-ghost use Rattle.diff_flow.specs.declared.steps.Step.{Step};
+ghost use Rattle.diff_flow.specs.declared.steps.ResidualArc.{ResidualArc};
 ghost use Rattle.diff_flow.specs.inner.Steps.{step_at};
 ghost use Rattle.diff_flow.specs.inner.Search.{
   ArePlaced,
@@ -14,7 +14,7 @@ ghost use Rattle.diff_flow.specs.inner.Search.{
   IsTree,
 };
 
-use crate::steps::{Step, Steps};
+use crate::steps::{ResidualArc, Steps};
 use compact_types::NoMemory;
 use std::alloc::Global;
 
@@ -31,17 +31,17 @@ pub(crate) struct Reached {
 /// The reached nodes in the order in which they were reached; and for each node the number of its
 /// entry and one more, 0 where it was not reached.
 #[derive(Drop)]
-pub(crate) struct Tree {
+pub(crate) struct SearchTree {
     pub(crate) entries: Vec<Reached>,
     pub(crate) places: Vec<u32>,
 }
 
-impl Tree {
+impl SearchTree {
     /// A tree without nodes, which has room for all.
-    pub(crate) fn blank(alloc: Global, nodes: u32) -> Result<Tree, NoMemory>
+    pub(crate) fn blank(alloc: Global, nodes: u32) -> Result<SearchTree, NoMemory>
         ensures blank { IfOk result (λ tree. IsBlank nodes tree.entries.items tree.places.items) }
     {
-        Ok(Tree {
+        Ok(SearchTree {
             entries: Vec::with_capacity(alloc, nodes as usize)?,
             places: vec![in alloc; 0u32; nodes as usize]?,
         })
@@ -49,14 +49,19 @@ impl Tree {
 }
 
 /// Makes a tree without nodes one of one node.
-pub(crate) fn plant(start: u32, most: u128, nodes: u32, tree: &mut Tree) -> Result<(), NoMemory>
+pub(crate) fn plant(
+    start: u32,
+    most: u128,
+    nodes: u32,
+    tree: &mut SearchTree,
+) -> Result<(), NoMemory>
     requires start { start < nodes }
     requires some { 0 < most }
     requires blank { IsBlank nodes tree.old.entries.items tree.old.places.items }
     ensures one { IfOk result (λ _. length tree.new.entries.items ≡ 1) }
     ensures start { IfOk result (λ _. (entry_at tree.new.entries.items 0).node ≡ start) }
     ensures most { IfOk result (λ _. (entry_at tree.new.entries.items 0).room ≡ most) }
-    ensures tree { (steps : List Step) (amounts numbers : List ℕ) → IfOk result (λ _.
+    ensures tree { (steps : List ResidualArc) (amounts numbers : List ℕ) → IfOk result (λ _.
         IsTree nodes steps amounts numbers tree.new.entries.items tree.new.places.items) }
     ensures places { IfOk result (λ _.
         (v : ℕ) → 0 < slice_index tree.new.places.items v → v ≡ start) }
@@ -72,7 +77,7 @@ pub(crate) fn plant(start: u32, most: u128, nodes: u32, tree: &mut Tree) -> Resu
 }
 
 /// Takes all nodes out of the tree.
-pub(crate) fn clear(nodes: u32, tree: &mut Tree)
+pub(crate) fn clear(nodes: u32, tree: &mut SearchTree)
     requires { ArePlaced nodes tree.old.entries.items tree.old.places.items }
     ensures { IsBlank nodes tree.new.entries.items tree.new.places.items }
 {
@@ -88,7 +93,7 @@ pub(crate) fn enter(
     k: usize,
     steps: &Steps,
     amounts: &[u128],
-    tree: &mut Tree,
+    tree: &mut SearchTree,
 ) -> Result<(), NoMemory>
     requires inside { k < length steps.now.list.items }
     requires amounts { length amounts.now ≡ steps.now.arcs }
@@ -116,7 +121,7 @@ pub(crate) fn enter(
 }
 
 /// How much can be sent over the step, where its arc has this amount and so much reaches it.
-fn room_over(step: Step, amount: u128, above: u128) -> u128
+fn room_over(step: ResidualArc, amount: u128, above: u128) -> u128
     ensures { IsRoom step amount above result }
 {
     if step.up > 0 {

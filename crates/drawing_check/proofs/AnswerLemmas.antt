@@ -19,8 +19,8 @@ use Rattle.compact_types.proofs.Laws.{some_way, same_point}
 use Rattle.drawing_check.specs.declared.covered.Covered.{Covered}
 use Rattle.drawing_check.specs.declared.fault.ShapeFault.{ShapeFault}
 use Rattle.drawing_check.specs.declared.fault.ShapeFault.TheVariants.{ZeroPiece, Slanted, Disconnected, Meeting}
-use Rattle.drawing_check.specs.declared.span.Extent.{Extent}
-use Rattle.drawing_check.specs.declared.span.Span.{Span}
+use Rattle.drawing_check.specs.declared.span.PieceExtent.{PieceExtent}
+use Rattle.drawing_check.specs.declared.span.Interval.{Interval}
 use Rattle.drawing_check.specs.Conditions.{CanCheck}
 use Rattle.drawing_check.specs.Courses.{HasNoLength, IsSlanted, AllHaveWays}
 use Rattle.drawing_check.specs.Faults.{IsFirst, IsFirstApart, FirstShapeFault}
@@ -28,7 +28,7 @@ use Rattle.compact_types.specs.Orders.{IsPairBefore}
 use Rattle.drawing_check.specs.Meetings.{Meets, IsFirstMeeting}
 use Rattle.drawing_check.specs.Points.{IsLeastPoint}
 use Rattle.drawing_check.specs.Shapes.{IsShapeOf}
-use Rattle.drawing_check.specs.inner.Collisions.{IsOn, IsCovered, IsAllowed, Collides}
+use Rattle.drawing_check.specs.inner.Collisions.{IsOn, HasPointsOfExtent, IsAllowed, Collides}
 use Rattle.drawing_check.specs.inner.CommonEnds.{IsOnlyCommonEnd}
 use Rattle.drawing_check.specs.inner.Partners.{IsApart}
 use Rattle.drawing_check.specs.inner.Spans.{IsIn, IsInside, IsInsideBut}
@@ -171,7 +171,7 @@ one_end_or_none p q = by_ends (same_ends_or_not p q)
 
 -- the numbers between two, as a span
 abbrev Spanned : ℤ → ℤ → Type 0
-Spanned a b = (span : Span) × ((z : ℤ) → (IsBetween a b z → IsIn span z) × (IsIn span z → IsBetween a b z))
+Spanned a b = (span : Interval) × ((z : ℤ) → (IsBetween a b z → IsIn span z) × (IsIn span z → IsBetween a b z))
 
 span_of : (a b : ℤ) → Spanned a b
 span_of a b = by_lt_z a b
@@ -188,7 +188,7 @@ span_of a b = by_lt_z a b
 
 -- a piece with the points that it covers
 abbrev Covering : List Point → Piece → Type 0
-Covering points piece = (covered : Covered) × (covered.piece ≡ piece) × IsCovered points covered
+Covering points piece = (covered : Covered) × (covered.piece ≡ piece) × HasPointsOfExtent points covered
 
 covering : (points : List Point) (piece : Piece) → Covering points piece
 covering points piece =
@@ -203,13 +203,13 @@ covering points piece =
     )
 
 -- what two extents have in common
-abbrev common_of : Extent → Extent → Extent
+abbrev common_of : PieceExtent → PieceExtent → PieceExtent
 common_of a b = record {
   x = record { low = int_max a.x.low b.x.low; high = int_min a.x.high b.x.high };
   y = record { low = int_max a.y.low b.y.low; high = int_min a.y.high b.y.high };
 }
 
-common_is : (a b : Extent) (z : Point) → (IsInside a z × IsInside b z → IsInside (common_of a b) z) × (IsInside (common_of a b) z → IsInside a z × IsInside b z)
+common_is : (a b : PieceExtent) (z : Point) → (IsInside a z × IsInside b z → IsInside (common_of a b) z) × (IsInside (common_of a b) z → IsInside a z × IsInside b z)
 common_is a b z = (
   λ both. ((omega (arith, ints, clamps), omega (arith, ints, clamps)), (omega (arith, ints, clamps), omega (arith, ints, clamps))),
   λ inside. (
@@ -219,17 +219,17 @@ common_is a b z = (
 )
 
 -- the least point of an extent other than the excepted one, or none
-abbrev LeastOrNone : Option Point → Extent → Type 0
+abbrev LeastOrNone : Option Point → PieceExtent → Type 0
 LeastOrNone except extent =
     (found : Option Point) × MatchOption found ((z : Point) → IsInside extent z → except ≡ Some z) (IsLeastPoint (IsInsideBut except extent))
 
-after_corner_or_none : (extent : Extent) → extent.x.low ≤ℤ extent.x.high → extent.y.low ≤ℤ extent.y.high → LeastOrNone (Some (corner_of extent)) extent
+after_corner_or_none : (extent : PieceExtent) → extent.x.low ≤ℤ extent.x.high → extent.y.low ≤ℤ extent.y.high → LeastOrNone (Some (corner_of extent)) extent
 after_corner_or_none extent across along =
     by_lt_z extent.y.low extent.y.high (λ less. (Some _, above_least extent across less))
     (λ one_y. by_lt_z extent.x.low extent.x.high (λ less. (Some _, right_least extent less (omega (arith, ints))))
     (λ one_x. (None, λ z inside. ap Some (same_point (corner_of extent) z (omega (arith, ints)) (omega (arith, ints))))))
 
-least_or_none : (except : Option Point) (extent : Extent) → LeastOrNone except extent
+least_or_none : (except : Option Point) (extent : PieceExtent) → LeastOrNone except extent
 least_or_none except extent =
     by_lt_z extent.x.high extent.x.low (λ empty. (None, λ z inside. absurd (omega (arith, ints))))
     (λ across. by_lt_z extent.y.high extent.y.low (λ empty. (None, λ z inside. absurd (omega (arith, ints))))

@@ -9,7 +9,7 @@ use Rattle.compact_types.specs.declared.plan.Plan.{Plan}
 use Rattle.compact_types.specs.declared.plan.Shape.{Shape}
 use Rattle.compact_types.specs.Lookups.{place, piece_at, IsEnd, HaveSameEnds}
 use Rattle.compact_types.specs.Drawings.{MayShare, MeetOnlyAtEnds, HasWays, IsCrossingFree, IsDrawing}
-use Rattle.drawing_check.specs.declared.span.Extent.{Extent}
+use Rattle.drawing_check.specs.declared.span.PieceExtent.{PieceExtent}
 use Rattle.drawing_check.specs.declared.covered.Covered.{Covered}
 use Rattle.drawing_check.specs.inner.Spans.{IsInside, IsInsideBut}
 use Rattle.drawing_check.specs.Points.{IsLeastPoint}
@@ -18,11 +18,11 @@ use Rattle.drawing_check.specs.declared.meeting.Meeting.{Meeting}
 use Rattle.compact_types.specs.Orders.{IsPairBefore}
 use Rattle.compact_types.proofs.Laws.{drawing_of_crossing_free}
 use Rattle.drawing_check.specs.Meetings.{Meets, IsFirstMeeting}
-use Rattle.drawing_check.specs.inner.Partners.{IsApart, AreApart, IsFirstPartner}
-use Rattle.drawing_check.specs.inner.Collisions.{IsOn, IsCovered, IsAllowed, SharesAllowed, Collides}
+use Rattle.drawing_check.specs.inner.Partners.{IsApart, ArePiecesApart, IsFirstPartner}
+use Rattle.drawing_check.specs.inner.Collisions.{IsOn, HasPointsOfExtent, IsAllowed, SharesAllowed, Collides}
 
-module _ (points : List Point) (p q : Covered) (shared : Extent)
-    (first : IsCovered points p) (second : IsCovered points q)
+module _ (points : List Point) (p q : Covered) (shared : PieceExtent)
+    (first : HasPointsOfExtent points p) (second : HasPointsOfExtent points q)
     (common : (z : Point) → (IsInside p.extent z × IsInside q.extent z → IsInside shared z) × (IsInside shared z → IsInside p.extent z × IsInside q.extent z)) where
   -- a point on both pieces is in what their extents share
   pub in_shared : (z : Point) → IsOn points p.piece z → IsOn points q.piece z → IsInside shared z
@@ -89,7 +89,7 @@ no_meeting plan places i j apart w meets = meets.forbidden (apart w meets.on_fir
 
 -- the first partner of the first piece that has one is the first meeting
 pub first_from_partner : (plan : Plan) (places : Places) (n p : ℕ) (meeting : Meeting) → p ≡ n → IsFirstPartner plan places p meeting →
-    AreApart plan places n → IsFirstMeeting plan places meeting.first meeting.second meeting.point
+    ArePiecesApart plan places n → IsFirstMeeting plan places meeting.first meeting.second meeting.point
 first_from_partner plan places n p meeting same partner earlier =
     subst (λ (first : ℕ). IsFirstMeeting plan places first meeting.second meeting.point) (sym partner.is_first)
     (record { in_order = partner.in_order; in_plan = partner.in_plan; least = partner.least; first = λ i j order inside before. before_none i j order inside before })
@@ -109,12 +109,12 @@ apart_one_more plan places p n below here q after inside = by_order (cases_lt q 
     by_order (inr more) = let same : n ≡ q = omega arith in subst (λ (k : ℕ). IsApart plan places p k) same here
 
 -- of no pieces nothing is asked
-pub none_apart : (plan : Plan) (places : Places) → AreApart plan places 0
+pub none_apart : (plan : Plan) (places : Places) → ArePiecesApart plan places 0
 none_apart plan places = record { apart = λ p q below. absurd (omega arith) }
 
 -- one more piece is apart from all that follow
-pub one_more_apart : (plan : Plan) (places : Places) (n m : ℕ) → m ≡ n + 1 → AreApart plan places n →
-    ((q : ℕ) → n < q → q < length plan.pieces → IsApart plan places n q) → AreApart plan places m
+pub one_more_apart : (plan : Plan) (places : Places) (n m : ℕ) → m ≡ n + 1 → ArePiecesApart plan places n →
+    ((q : ℕ) → n < q → q < length plan.pieces → IsApart plan places n q) → ArePiecesApart plan places m
 one_more_apart plan places n m next before here = record { apart = λ p q less after inside. by_order p q (cases_lt p n) less after inside }
   where
     by_order : (p q : ℕ) → (p < n) ⊎ (n ≤ p) → p < m → p < q → q < length plan.pieces → IsApart plan places p q

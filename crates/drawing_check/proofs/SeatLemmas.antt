@@ -26,8 +26,8 @@ use Rattle.compact_types.specs.declared.plan.Plan.{Plan}
 use Rattle.compact_types.specs.Lookups.{along, piece_at, EndsAreVertices}
 use Rattle.drawing_check.specs.declared.seats.Seat.{Seat}
 use Rattle.drawing_check.specs.inner.Collisions.{IsOn, SharesAllowed}
-use Rattle.drawing_check.specs.inner.Partners.{IsApart, AreApart}
-use Rattle.drawing_check.specs.inner.Seats.{no_seat, seat_at, IsPlaced, HasItsPiece, AreNumbered, BeginInOrder, CanSweep, AreSeats, AreApartBelow, IsApartUpTo}
+use Rattle.drawing_check.specs.inner.Partners.{IsApart, ArePiecesApart}
+use Rattle.drawing_check.specs.inner.Seats.{no_seat, seat_at, IsPlaced, HasItsPiece, AreSeatsOfPieces, SeatsBeginInOrder, CanSweep, AreSeats, AreApartBelow, IsApartUpTo}
 use Rattle.drawing_check.proofs.MeetingLemmas.{apart_from_pieces, may_share_turned}
 
 -- one of two numbers that is not less than the other
@@ -37,15 +37,15 @@ from_ranks Equal x y same not_less = omega (arith, ints, same)
 from_ranks Greater x y more not_less = omega (arith, ints, more)
 
 -- seats sorted by where their spans begin
-pub order_from_sort : (seats : List Seat) → IsSortedByKey (λ (seat : Seat). seat.span.low) int_cmp seats → BeginInOrder seats
+pub order_from_sort : (seats : List Seat) → IsSortedByKey (λ (seat : Seat). seat.span.low) int_cmp seats → SeatsBeginInOrder seats
 order_from_sort seats sorted j k before within =
     from_ranks (int_cmp (seat_at seats k).span.low (seat_at seats j).span.low) _ _ (int_ranks (seat_at seats k).span.low (seat_at seats j).span.low)
     (sorted_far (λ (x y : Seat). is_lt (int_cmp x.span.low y.span.low)) (ranks_by int_cmp_total (λ (seat : Seat). seat.span.low)) seats sorted j k no_seat (omega arith) within)
 
 -- one seat more
 pub numbered_one_more : (axis : Axis) (points : List Point) (pieces : List Piece) (n : ℕ) (seats more : List Seat) (seat : Seat) → more ≡ seats ++ seat ∷ [] →
-    seat.number ≡ n → seat.covered.piece ≡ piece_at pieces n → IsPlaced axis points seat → AreNumbered axis points pieces n seats →
-    AreNumbered axis points pieces (n + 1) more
+    seat.number ≡ n → seat.covered.piece ≡ piece_at pieces n → IsPlaced axis points seat → AreSeatsOfPieces axis points pieces n seats →
+    AreSeatsOfPieces axis points pieces (n + 1) more
 numbered_one_more axis points pieces n seats more seat is number piece placed before = record {
   one_for_each = ap length is ∙ length_push seats seat ∙ ap (λ (m : ℕ). m + 1) before.one_for_each;
   number = λ k inside. at (λ (s : Seat). s.number ≡ k) k inside (before.number k) (λ same. number ∙ same);
@@ -64,7 +64,7 @@ numbered_one_more axis points pieces n seats more seat is number piece placed be
             subst P (sym (ap (λ (l : List Seat). seat_at l k) is ∙ get_or_push seats seat no_seat k (before.one_for_each ∙ same))) (here same)
 
 module _ (axis : Axis) (points : List Point) (pieces : List Piece) (before after : List Seat) (moved : IsPermutation before after)
-    (numbered : AreNumbered axis points pieces (length pieces) before) where
+    (numbered : AreSeatsOfPieces axis points pieces (length pieces) before) where
   -- what holds of each seat holds of each once they are in order
   kept : (P : Seat → Type 0) → ((k : ℕ) → k < length pieces → P (seat_at before k)) → (k : ℕ) → k < length after → P (seat_at after k)
   kept P each k within =
@@ -80,7 +80,7 @@ module _ (axis : Axis) (points : List Point) (pieces : List Piece) (before after
   )
 
   -- the seats of all pieces, in order
-  pub seats_in_order : BeginInOrder after → AreSeats points pieces after
+  pub seats_in_order : SeatsBeginInOrder after → AreSeats points pieces after
   seats_in_order in_order = record {
     can_sweep = record { axis = axis; placed = kept (IsPlaced axis points) numbered.placed; in_order = in_order };
     own = kept (HasItsPiece pieces) numbered.own;
@@ -142,7 +142,7 @@ module _ (plan : Plan) (places : Places) (seats : List Seat) (n : ℕ) (are : Ar
 
   -- where each seat is apart from those after it, as far as its piece or theirs is one of the first n,
   -- so is each of the first n pieces from all that follow it
-  pub all_apart : AreApart plan places n
+  pub all_apart : ArePiecesApart plan places n
   all_apart = record { apart = λ p q below order inside. by_seats p q below order (are.each p (omega (arith, order, inside))) (are.each q inside) }
     where
       by_seats : (p q : ℕ) → p < n → p < q → (j : ℕ) × (j < length seats) × ((seat_at seats j).number ≡ p) →
@@ -164,7 +164,7 @@ module _ (plan : Plan) (places : Places) (seats : List Seat) (n : ℕ) (are : Ar
 -- so it is with the least of the numbers that the seats show
 pub apart_from_least : (plan : Plan) (places : Places) (points : List Point) (seats : List Seat) (xs ys : List ℕ) (found : Option ℕ) (most n : ℕ) →
     points ≡ places.xy → AreSeats places.xy plan.pieces seats → xs ≡ range_with_len 0 (length seats) →
-    AllZip (λ place m. IsApartUpTo points seats place (length seats) m) xs ys → IsLeast nat_cmp ys found → n ≡ unwrap_or found most → AreApart plan places n
+    AllZip (λ place m. IsApartUpTo points seats place (length seats) m) xs ys → IsLeast nat_cmp ys found → n ≡ unwrap_or found most → ArePiecesApart plan places n
 apart_from_least plan places points seats xs ys found most n at_places are listed each least is = all_apart plan places seats n are (at found least is)
   where
     shown : ℕ → ℕ → Type 0
@@ -199,7 +199,7 @@ lent_whole n after rest is = ap (λ (m : ℕ). take m (after ++ rest)) is ∙ ta
 
 -- the seats of the pieces that the code read
 pub seats_as_read : (axis : Axis) (plan : Plan) (places : Places) (pieces : List Piece) (points : List Point) (before after : List Seat) → pieces ≡ plan.pieces → points ≡ places.xy →
-    IsPermutation before after → AreNumbered axis points pieces (length pieces) before → BeginInOrder after → AreSeats places.xy plan.pieces after
+    IsPermutation before after → AreSeatsOfPieces axis points pieces (length pieces) before → SeatsBeginInOrder after → AreSeats places.xy plan.pieces after
 seats_as_read axis plan places pieces points before after same_pieces same_points moved numbered in_order =
     subst (λ (l : List Piece). AreSeats places.xy l after) same_pieces
     (subst (λ (l : List Point). AreSeats l pieces after) same_points (seats_in_order axis points pieces before after moved numbered in_order))

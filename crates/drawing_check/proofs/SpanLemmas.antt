@@ -5,7 +5,7 @@ use Rattle.std.proofs.lemmas.Bool.{and_parts}
 use Rattle.std.proofs.lemmas.Bool.Decides.{Decides-int_eq}
 use Rattle.compact_types.specs.declared.places.Point.{Point}
 use Rattle.compact_types.proofs.Laws.{same_point}
-use Rattle.drawing_check.specs.declared.span.Extent.{Extent}
+use Rattle.drawing_check.specs.declared.span.PieceExtent.{PieceExtent}
 use Rattle.drawing_check.specs.inner.Spans.{IsInside, IsInsideBut}
 use Rattle.compact_types.specs.Orders.{IsPointBefore}
 use Rattle.drawing_check.specs.Points.{IsLeastPoint}
@@ -20,16 +20,16 @@ y_of None = pos 0
 y_of (Some point) = point.y
 
 -- the corner with the least x and the least y
-abbrev pub corner_of : Extent → Point
+abbrev pub corner_of : PieceExtent → Point
 corner_of extent = record { x = extent.x.low; y = extent.y.low }
 
 -- no point inside comes before the corner
-pub corner_least : (extent : Extent) (w : Point) → IsInside extent w → IsPointBefore w (corner_of extent) → ⊥
+pub corner_least : (extent : PieceExtent) (w : Point) → IsInside extent w → IsPointBefore w (corner_of extent) → ⊥
 corner_least extent w inside (inl before) = omega (arith, ints)
 corner_least extent w inside (inr before) = omega (arith, ints)
 
 -- where the y grow, the next point stands above the corner
-pub above_least : (extent : Extent) → extent.x.low ≤ℤ extent.x.high → extent.y.low <ℤ extent.y.high →
+pub above_least : (extent : PieceExtent) → extent.x.low ≤ℤ extent.x.high → extent.y.low <ℤ extent.y.high →
     IsLeastPoint (IsInsideBut (Some (corner_of extent)) extent) (record { x = extent.x.low; y = extent.y.low +ℤ pos 1 })
 above_least extent across along = (
   (
@@ -45,7 +45,7 @@ above_least extent across along = (
         left.1 (ap Some (same_point (corner_of extent) w (sym before.0) (omega (arith, ints))))
 
 -- where there is one y only, the next point stands right of the corner
-pub right_least : (extent : Extent) → extent.x.low <ℤ extent.x.high → extent.y.low ≡ extent.y.high →
+pub right_least : (extent : PieceExtent) → extent.x.low <ℤ extent.x.high → extent.y.low ≡ extent.y.high →
     IsLeastPoint (IsInsideBut (Some (corner_of extent)) extent) (record { x = extent.x.low +ℤ pos 1; y = extent.y.low })
 right_least extent across along = (
   (
@@ -61,7 +61,7 @@ right_least extent across along = (
     elim_before w left (inr before) = omega (arith, ints)
 
 -- the corner is the least point, where it is not the excepted one
-pub corner_is_least : (extent : Extent) (except : Option Point) → extent.x.low ≤ℤ extent.x.high → extent.y.low ≤ℤ extent.y.high →
+pub corner_is_least : (extent : PieceExtent) (except : Option Point) → extent.x.low ≤ℤ extent.x.high → extent.y.low ≤ℤ extent.y.high →
     (except ≡ Some (corner_of extent) → ⊥) → IsLeastPoint (IsInsideBut except extent) (corner_of extent)
 corner_is_least extent except across along other = (
   (((omega (arith, ints), omega (arith, ints)), (omega (arith, ints), omega (arith, ints))), other),
@@ -82,7 +82,7 @@ other_point_from_tests a b result is fails same =
     cc
 
 -- what is left of an extent without its corner
-pub without_corner : (extent : Extent) (except result : Option Point) → Some (corner_of extent) ≡ except →
+pub without_corner : (extent : PieceExtent) (except result : Option Point) → Some (corner_of extent) ≡ except →
     MatchOption result ((z : Point) → IsInside extent z → z ≡ corner_of extent) (IsLeastPoint (IsInsideBut (Some (corner_of extent)) extent)) →
     MatchOption result ((z : Point) → IsInside extent z → except ≡ Some z) (IsLeastPoint (IsInsideBut except extent))
 without_corner extent except None same left = λ z inside. sym same ∙ ap Some (sym (left z inside))

@@ -3,17 +3,18 @@
 ghost use Rattle.std.specs.Prelude.{◌≡◌, ◌<◌, length, MatchOption, ◌↔◌, Some};
 ghost use Rattle.compact_types.specs.declared.places.Point.{Point as AnyPoint};
 ghost use Rattle.drawing_check.specs.Points.{IsLeastPoint};
-ghost use Rattle.drawing_check.specs.inner.Collisions.{IsCovered, IsAllowed, SharesAllowed, Collides};
+ghost use Rattle.drawing_check.specs.inner.Collisions.{HasPointsOfExtent, IsAllowed};
+ghost use Rattle.drawing_check.specs.inner.Collisions.{SharesAllowed, Collides};
 
 use crate::common_end::only_common_end;
-use crate::span::{Extent, common_extent, extent_between, is_empty, least_point};
+use crate::span::{PieceExtent, common_extent, extent_between, is_empty, least_point};
 use compact_types::{Piece, Point};
 
 /// A piece, and the points between the places of its ends.
 #[derive(Clone, Copy, Debug)]
 pub(crate) struct Covered {
     pub(crate) piece: Piece,
-    pub(crate) extent: Extent,
+    pub(crate) extent: PieceExtent,
 }
 
 /// The piece with the points that it covers, where `points` are the places of the vertices.
@@ -21,7 +22,7 @@ pub(crate) fn cover(points: &[Point], piece: Piece) -> Covered
     requires from { piece.from < length points.now }
     requires to { piece.to < length points.now }
     ensures piece { result.piece ≡ piece }
-    ensures extent { IsCovered points.now result }
+    ensures extent { HasPointsOfExtent points.now result }
 {
     let extent = extent_between(points[piece.from as usize], points[piece.to as usize]);
     Covered { piece, extent }
@@ -41,8 +42,8 @@ fn allowed_point(points: &[Point], p: Piece, q: Piece) -> Option<Point>
 pub(crate) fn collision(points: &[Point], p: Covered, q: Covered) -> Option<Point>
     requires from { p.piece.from < length points.now }
     requires to { p.piece.to < length points.now }
-    requires first { IsCovered points.now p }
-    requires second { IsCovered points.now q }
+    requires first { HasPointsOfExtent points.now p }
+    requires second { HasPointsOfExtent points.now q }
     ensures { MatchOption result
         (SharesAllowed points.now p.piece q.piece)
         (IsLeastPoint (Collides points.now p.piece q.piece)) }

@@ -3,7 +3,7 @@
 ghost use Rattle.std.specs.Prelude.{◌≡◌, ℕ, ◌<◌, length, MatchOption};
 ghost use Rattle.drawing_check.specs.Conditions.{CanCheck};
 ghost use Rattle.drawing_check.specs.Meetings.{IsFirstMeeting};
-ghost use Rattle.drawing_check.specs.inner.Partners.{AreApart, IsApart, IsFirstPartner};
+ghost use Rattle.drawing_check.specs.inner.Partners.{ArePiecesApart, IsApart, IsFirstPartner};
 ghost use Rattle.drawing_check.specs.declared.fault.ShapeFault.TheVariants as shape_fault;
 
 use crate::covered::{collision, cover};
@@ -38,7 +38,7 @@ impl From<Meeting> for ShapeFault {
 #[tactic(auto, using(crate::proofs::MeetingLemmas::first_of_meetings))]
 pub(crate) fn first_meeting(plan: &Plan, places: &Places, from: usize) -> Option<Meeting>
     requires can_check { CanCheck plan.now places.now }
-    requires apart { AreApart plan.now places.now from }
+    requires apart { ArePiecesApart plan.now places.now from }
     ensures { MatchOption result
         ((p q : ℕ) → p < q → q < length plan.now.pieces → IsApart plan.now places.now p q)
         (λ m. IsFirstMeeting plan.now places.now m.first m.second m.point) }

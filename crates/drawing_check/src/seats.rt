@@ -4,11 +4,11 @@ ghost use Rattle.std.specs.Prelude.{◌≡◌, ◌<◌, length, IfOk};
 ghost use Rattle.std.specs.List.Sorted.{IsPermutation};
 ghost use Rattle.compact_types.specs.Lookups.{EndsAreVertices};
 ghost use Rattle.drawing_check.specs.Conditions.{CanCheck};
-ghost use Rattle.drawing_check.specs.inner.Seats.{AreNumbered, AreSeats, BeginInOrder};
+ghost use Rattle.drawing_check.specs.inner.Seats.{AreSeats, AreSeatsOfPieces, SeatsBeginInOrder};
 ghost use Rattle.drawing_check.specs.inner.Seats.{IsPlaced};
 
 use crate::covered::{Covered, cover};
-use crate::span::{Span, span_along};
+use crate::span::{Interval, span_along};
 use compact_types::{Axis, NoMemory, Piece, Places, Plan, Point, coordinate};
 use std::alloc::Global;
 
@@ -16,7 +16,7 @@ use std::alloc::Global;
 #[derive(Clone, Copy, Debug)]
 pub(crate) struct Seat {
     pub(crate) number: usize,
-    pub(crate) span: Span,
+    pub(crate) span: Interval,
     pub(crate) covered: Covered,
 }
 
@@ -64,7 +64,7 @@ fn numbered(
 ) -> Result<Vec<Seat>, NoMemory>
     requires { EndsAreVertices (length points.now) pieces.now }
     ensures { IfOk result (λ seats.
-        AreNumbered axis points.now pieces.now (length pieces.now) seats.items) }
+        AreSeatsOfPieces axis points.now pieces.now (length pieces.now) seats.items) }
 {
     let mut seats = Vec::with_capacity(alloc, pieces.len())?;
     for number in 0..pieces.len() {
@@ -93,7 +93,7 @@ fn seat_of(axis: Axis, points: &[Point], number: usize, piece: Piece) -> Seat
 fn order_by_begin(seats: &mut [Seat])
     ensures permutation { IsPermutation seats.old seats.new }
     ensures len { length seats.new ≡ length seats.old }
-    ensures in_order { BeginInOrder seats.new }
+    ensures in_order { SeatsBeginInOrder seats.new }
 {
     seats.sort_unstable_by_key(|seat| seat.span.low);
 }

@@ -11,31 +11,31 @@ use compact_types::{Axis, Point};
 
 /// The numbers from `low` to `high`; none where `high` is less.
 #[derive(Clone, Copy, Debug)]
-pub(crate) struct Span {
+pub(crate) struct Interval {
     pub(crate) low: i64,
     pub(crate) high: i64,
 }
 
 /// The points with an `x` and a `y` in these spans.
 #[derive(Clone, Copy, Debug)]
-pub(crate) struct Extent {
-    pub(crate) x: Span,
-    pub(crate) y: Span,
+pub(crate) struct PieceExtent {
+    pub(crate) x: Interval,
+    pub(crate) y: Interval,
 }
 
 /// The numbers from `a` to `b`, whichever of the two is less.
-fn span_between(a: i64, b: i64) -> Span
+fn span_between(a: i64, b: i64) -> Interval
     ensures { (z : ℤ) → IsBetween a b z ↔ IsIn result z }
 {
     if a <= b {
-        Span { low: a, high: b }
+        Interval { low: a, high: b }
     } else {
-        Span { low: b, high: a }
+        Interval { low: b, high: a }
     }
 }
 
 /// The span of the extent along the axis.
-pub(crate) fn span_along(axis: Axis, extent: Extent) -> Span
+pub(crate) fn span_along(axis: Axis, extent: PieceExtent) -> Interval
     ensures { (z : AnyPoint) → IsInside extent z → IsIn result (along axis z) }
 {
     match axis {
@@ -45,37 +45,37 @@ pub(crate) fn span_along(axis: Axis, extent: Extent) -> Span
 }
 
 /// The numbers of both spans.
-fn common_span(a: Span, b: Span) -> Span
+fn common_span(a: Interval, b: Interval) -> Interval
     ensures { (z : ℤ) → (IsIn a z × IsIn b z) ↔ IsIn result z }
 {
-    Span {
+    Interval {
         low: a.low.max(b.low),
         high: a.high.min(b.high),
     }
 }
 
 /// The points of the closed segment between `a` and `b`.
-pub(crate) fn extent_between(a: Point, b: Point) -> Extent
+pub(crate) fn extent_between(a: Point, b: Point) -> PieceExtent
     ensures { (z : AnyPoint) → OnSegment a b z ↔ IsInside result z }
 {
-    Extent {
+    PieceExtent {
         x: span_between(a.x, b.x),
         y: span_between(a.y, b.y),
     }
 }
 
 /// The points of both extents.
-pub(crate) fn common_extent(a: Extent, b: Extent) -> Extent
+pub(crate) fn common_extent(a: PieceExtent, b: PieceExtent) -> PieceExtent
     ensures { (z : AnyPoint) → (IsInside a z × IsInside b z) ↔ IsInside result z }
 {
-    Extent {
+    PieceExtent {
         x: common_span(a.x, b.x),
         y: common_span(a.y, b.y),
     }
 }
 
 /// Whether no point is inside.
-pub(crate) fn is_empty(extent: Extent) -> bool
+pub(crate) fn is_empty(extent: PieceExtent) -> bool
     ensures { MatchBool result
         ((z : AnyPoint) → IsInside extent z → ⊥)
         ((extent.x.low ≤ℤ extent.x.high) × (extent.y.low ≤ℤ extent.y.high)) }
@@ -84,7 +84,7 @@ pub(crate) fn is_empty(extent: Extent) -> bool
 }
 
 /// The least point inside, by x and then y, other than `except`.
-pub(crate) fn least_point(extent: Extent, except: Option<Point>) -> Option<Point>
+pub(crate) fn least_point(extent: PieceExtent, except: Option<Point>) -> Option<Point>
     requires x { extent.x.low ≤ℤ extent.x.high }
     requires y { extent.y.low ≤ℤ extent.y.high }
     ensures { MatchOption result
@@ -102,14 +102,14 @@ pub(crate) fn least_point(extent: Extent, except: Option<Point>) -> Option<Point
 }
 
 /// The least point inside, by x and then y, after the corner with the least x and the least y.
-fn after_corner(extent: Extent) -> Option<Point>
+fn after_corner(extent: PieceExtent) -> Option<Point>
     requires x { extent.x.low ≤ℤ extent.x.high }
     requires y { extent.y.low ≤ℤ extent.y.high }
     ensures { MatchOption result
         ((z : AnyPoint) → IsInside extent z → z ≡ record { x = extent.x.low; y = extent.y.low })
         (IsLeastPoint (IsInsideBut (Some (record { x = extent.x.low; y = extent.y.low })) extent)) }
 {
-    let Extent { x, y } = extent;
+    let PieceExtent { x, y } = extent;
     if y.low < y.high {
         Some(Point {
             x: x.low,

@@ -3,8 +3,8 @@
 ghost use Rattle.std.specs.Prelude.{◌≤◌, ◌<◌, ◌<ℤ◌, ◌↔◌, ℕ, length, IfOk, IsTrue, MatchOption};
 ghost use Rattle.drawing_check.specs.Conditions.{CanCheck};
 ghost use Rattle.drawing_check.specs.Meetings.{IsFirstMeeting};
-ghost use Rattle.drawing_check.specs.inner.Collisions.{IsCovered};
-ghost use Rattle.drawing_check.specs.inner.Partners.{AreApart, IsApart};
+ghost use Rattle.drawing_check.specs.inner.Collisions.{HasPointsOfExtent};
+ghost use Rattle.drawing_check.specs.inner.Partners.{ArePiecesApart, IsApart};
 ghost use Rattle.drawing_check.specs.inner.Seats.{AreApartBelow, AreSeats, CanSweep, IsApartUpTo};
 
 use crate::covered::collision;
@@ -39,7 +39,7 @@ pub(crate) fn meeting_by_sweep<R: Threads + Sync>(
 /// How many pieces in front are apart from all that follow them.
 fn count_apart<R: Threads + Sync>(rt: &R, plan: &Plan, places: &Places, seats: &[Seat]) -> usize
     requires { AreSeats places.now.xy plan.now.pieces seats.now }
-    ensures { AreApart plan.now places.now result }
+    ensures { ArePiecesApart plan.now places.now result }
 {
     let points = places.xy.as_slice();
     let count = plan.pieces.len();
@@ -86,8 +86,8 @@ fn ends_before(first: Seat, second: Seat) -> bool
 fn lowered(points: &[Point], first: Seat, second: Seat, count: usize) -> usize
     requires from { first.covered.piece.from < length points.now }
     requires to { first.covered.piece.to < length points.now }
-    requires first { IsCovered points.now first.covered }
-    requires second { IsCovered points.now second.covered }
+    requires first { HasPointsOfExtent points.now first.covered }
+    requires second { HasPointsOfExtent points.now second.covered }
     ensures at_most { result ≤ count }
     ensures apart { AreApartBelow points.now result first second }
 {

@@ -19,9 +19,9 @@ use Rattle.drawing_read.specs.declared.written.Graph.{Graph}
 use Rattle.drawing_read.specs.Ids.{id_of, ids_of, number_of_id, first_repeated}
 use Rattle.drawing_read.specs.Routes.{Route, point_of, node_points, route_of, routes_by}
 use Rattle.drawing_read.specs.Spans.{vertex_points, spans_of, pieces_of, points_in, spans_in, pieces_in}
-use Rattle.drawing_read.specs.Faults.{is_absent, is_unfit, both_numbers, numbers_of, refused_in, earlier, lacks_end, has_unknown_end, bad_point_from, graph_fault}
+use Rattle.drawing_read.specs.Faults.{is_absent, is_unfit, both_numbers, numbers_in_graph, refused_in, earlier, lacks_end, has_unknown_end, bad_point_from, graph_fault}
 use Rattle.drawing_read.proofs.AlikeLists.{bare_number, bare_point, bare_node, bare_edge, bare_graph, position-map, filter_map-map}
-use Rattle.drawing_read.proofs.Faultless.{HasNoFault, has_no_fault, is_faultless}
+use Rattle.drawing_read.proofs.FaultlessGraphs.{HasNoFault, has_no_fault, is_faultless}
 
 -- places
 
@@ -122,7 +122,7 @@ edges_flat-bare (edge ∷ edges) =
     ∙ ap (λ (ns : List Number). map bare_number (flat_map both_numbers edge.points) ++ ns) (edges_flat-bare edges)
     ∙ sym (map-append bare_number (flat_map both_numbers edge.points) (edge_numbers edges))
 
-numbers-bare : (graph : Graph) → numbers_of (bare_graph graph) ≡ map bare_number (numbers_of graph)
+numbers-bare : (graph : Graph) → numbers_in_graph (bare_graph graph) ≡ map bare_number (numbers_in_graph graph)
 numbers-bare graph =
     ap (λ (ns : List Number). ns ++ edge_numbers (map bare_edge graph.edges)) (nodes_flat-bare graph.nodes)
     ∙ ap (λ (ns : List Number). map bare_number (node_numbers graph.nodes) ++ ns) (edges_flat-bare graph.edges)
@@ -142,9 +142,9 @@ refused-bare number = by number.value
     by (Ok value) = refl
     by (Err cause) = refl
 
-all_refused-bare : (graph : Graph) → filter_map refused_in (numbers_of (bare_graph graph)) ≡ map bare_refused (filter_map refused_in (numbers_of graph))
+all_refused-bare : (graph : Graph) → filter_map refused_in (numbers_in_graph (bare_graph graph)) ≡ map bare_refused (filter_map refused_in (numbers_in_graph graph))
 all_refused-bare graph =
-    ap (filter_map refused_in) (numbers-bare graph) ∙ filter_map-map refused_in bare_number bare_refused refused_in refused-bare (numbers_of graph)
+    ap (filter_map refused_in) (numbers-bare graph) ∙ filter_map-map refused_in bare_number bare_refused refused_in refused-bare (numbers_in_graph graph)
 
 none_of_mapped : (refused : List RefusedNumber) → reduce earlier (map bare_refused refused) ≡ None → reduce earlier refused ≡ None
 none_of_mapped [] none = refl
@@ -168,7 +168,7 @@ module _ (graph : Graph) where
     fit_ids = position-map (λ (node : Node). is_unfit node.id) bare_node graph.nodes ∙ has.fit_ids;
     different_ids = ap first_repeated (ids_of-bare graph.nodes) ∙ has.different_ids;
     places = without_place-bare graph.nodes ∙ has.places;
-    numbers = ap (reduce earlier) (all_refused-bare graph) ∙ mapped_of_none (filter_map refused_in (numbers_of graph)) has.numbers;
+    numbers = ap (reduce earlier) (all_refused-bare graph) ∙ mapped_of_none (filter_map refused_in (numbers_in_graph graph)) has.numbers;
     ends = position-map lacks_end bare_edge graph.edges ∙ has.ends;
     known_ends = unknown-bare ∙ has.known_ends;
     points = bad_point-bare 0 graph.edges ∙ has.points;
@@ -183,7 +183,7 @@ module _ (graph : Graph) where
     fit_ids = sym (position-map (λ (node : Node). is_unfit node.id) bare_node graph.nodes) ∙ has.fit_ids;
     different_ids = sym (ap first_repeated (ids_of-bare graph.nodes)) ∙ has.different_ids;
     places = sym (without_place-bare graph.nodes) ∙ has.places;
-    numbers = none_of_mapped (filter_map refused_in (numbers_of graph)) (sym (ap (reduce earlier) (all_refused-bare graph)) ∙ has.numbers);
+    numbers = none_of_mapped (filter_map refused_in (numbers_in_graph graph)) (sym (ap (reduce earlier) (all_refused-bare graph)) ∙ has.numbers);
     ends = sym (position-map lacks_end bare_edge graph.edges) ∙ has.ends;
     known_ends = sym unknown-bare ∙ has.known_ends;
     points = sym (bad_point-bare 0 graph.edges) ∙ has.points;

@@ -20,7 +20,7 @@ use Rattle.drawing_read.specs.declared.written.Edge.{Edge}
 use Rattle.drawing_read.specs.declared.written.Graph.{Graph}
 use Rattle.drawing_read.specs.Lookups.{has_key, list_in, list_under, lists_under, first_under, first_list, place_under}
 use Rattle.drawing_read.specs.Numerals.{numeral_in, number_of, number_under, numbers_in, whole_in, whole_under}
-use Rattle.drawing_read.specs.Written.{node_of, node_in, point_in, line_in, line_of, edge_of, edge_in, graph_of}
+use Rattle.drawing_read.specs.Written.{written_node, node_in, point_in, line_in, line_pairs, edge_of, edge_in, graph_of}
 
 -- some pairs, a number, .. with 0 for each offset
 abbrev pub bare : List Pair → List Pair
@@ -177,19 +177,19 @@ same_edge : (source from target to : WholeNumber) (points others : List (Option 
     (let edge : Edge = record { source = source; target = target; points = points } in edge) ≡ (let edge : Edge = record { source = from; target = to; points = others } in edge)
 same_edge source from target to points others first second third = cc
 
-node_of-bare : (pairs : List Pair) → node_of (bare pairs) ≡ bare_node (node_of pairs)
-node_of-bare pairs =
+written_node-bare : (pairs : List Pair) → written_node (bare pairs) ≡ bare_node (written_node pairs)
+written_node-bare pairs =
     same_node (whole_under (codes "id") (bare pairs)) (whole_under (codes "id") pairs)
     (option_and_then numbers_in (first_list (codes "graphics") (bare pairs))) (bare_point (option_and_then numbers_in (first_list (codes "graphics") pairs)))
     (whole_under-bare (codes "id") pairs)
     (ap (option_and_then numbers_in) (first_list-bare (codes "graphics") pairs) ∙ maybe_numbers-bare (first_list (codes "graphics") pairs))
 
 node_in-bare : (pair : Pair) → node_in (bare_pair pair) ≡ option_map bare_node (node_in pair)
-node_in-bare pair = ap (option_map node_of) (list_under-bare (codes "node") pair) ∙ by (list_under (codes "node") pair)
+node_in-bare pair = ap (option_map written_node) (list_under-bare (codes "node") pair) ∙ by (list_under (codes "node") pair)
   where
-    by : (o : Option (List Pair)) → option_map node_of (option_map bare o) ≡ option_map bare_node (option_map node_of o)
+    by : (o : Option (List Pair)) → option_map written_node (option_map bare o) ≡ option_map bare_node (option_map written_node o)
     by None = refl
-    by (Some pairs) = ap Some (node_of-bare pairs)
+    by (Some pairs) = ap Some (written_node-bare pairs)
 
 point_in-bare : (pair : Pair) → point_in (bare_pair pair) ≡ option_map bare_point (point_in pair)
 point_in-bare pair = by (has_key (codes "point") pair)
@@ -206,8 +206,8 @@ line_in-bare pairs = ap (option_and_then (first_list (codes "Line"))) (first_lis
     by None = refl
     by (Some list) = first_list-bare (codes "Line") list
 
-line_of-bare : (pairs : List Pair) → line_of (bare pairs) ≡ bare (line_of pairs)
-line_of-bare pairs = ap (λ (o : Option (List Pair)). unwrap_or o []) (line_in-bare pairs) ∙ by (line_in pairs)
+line_pairs-bare : (pairs : List Pair) → line_pairs (bare pairs) ≡ bare (line_pairs pairs)
+line_pairs-bare pairs = ap (λ (o : Option (List Pair)). unwrap_or o []) (line_in-bare pairs) ∙ by (line_in pairs)
   where
     by : (o : Option (List Pair)) → unwrap_or (option_map bare o) [] ≡ bare (unwrap_or o [])
     by None = refl
@@ -216,9 +216,9 @@ line_of-bare pairs = ap (λ (o : Option (List Pair)). unwrap_or o []) (line_in-b
 edge_of-bare : (pairs : List Pair) → edge_of (bare pairs) ≡ bare_edge (edge_of pairs)
 edge_of-bare pairs =
     same_edge (whole_under (codes "source") (bare pairs)) (whole_under (codes "source") pairs) (whole_under (codes "target") (bare pairs)) (whole_under (codes "target") pairs)
-    (filter_map point_in (line_of (bare pairs))) (map bare_point (filter_map point_in (line_of pairs)))
+    (filter_map point_in (line_pairs (bare pairs))) (map bare_point (filter_map point_in (line_pairs pairs)))
     (whole_under-bare (codes "source") pairs) (whole_under-bare (codes "target") pairs)
-    (ap (filter_map point_in) (line_of-bare pairs) ∙ filter_map-map point_in bare_pair bare_point point_in point_in-bare (line_of pairs))
+    (ap (filter_map point_in) (line_pairs-bare pairs) ∙ filter_map-map point_in bare_pair bare_point point_in point_in-bare (line_pairs pairs))
 
 edge_in-bare : (pair : Pair) → edge_in (bare_pair pair) ≡ option_map bare_edge (edge_in pair)
 edge_in-bare pair = ap (option_map edge_of) (list_under-bare (codes "edge") pair) ∙ by (list_under (codes "edge") pair)

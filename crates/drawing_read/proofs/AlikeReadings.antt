@@ -9,7 +9,7 @@ use Rattle.gml_text.specs.declared.tree.Pair.{Pair}
 use Rattle.gml_text.proofs.Laws.{bare_value, bare_pair, pairs-IsAlike}
 use Rattle.drawing_read.specs.declared.reading.Reading.{Reading}
 use Rattle.drawing_read.specs.declared.reading.Spot.{Spot}
-use Rattle.drawing_read.specs.declared.spans.Span.{Span}
+use Rattle.drawing_read.specs.declared.spans.EdgeSpan.{EdgeSpan}
 use Rattle.drawing_read.specs.Lookups.{has_key, list_in, list_under, lists_under, first_list, place_under}
 use Rattle.drawing_read.specs.Written.{graph_of}
 use Rattle.drawing_read.specs.Spans.{point_vertex, no_span, points_in, spans_in, pieces_in}
@@ -51,7 +51,7 @@ module _ (spots : List ℕ → List Pair → List Spot) (same : (path : List ℕ
 node-bare : (path : List ℕ) (n : ℕ) (pairs : List Pair) → node_spots path n (bare pairs) ≡ node_spots path n pairs
 node-bare path n pairs = inside-bare (λ within list. coordinate_spots within n list) (λ path pairs. coordinates-bare path n pairs) (codes "graphics") path pairs
 
-points-bare : (path : List ℕ) (span : Span) (at p : ℕ) (pairs : List Pair) → point_spots path span at p (bare pairs) ≡ point_spots path span at p pairs
+points-bare : (path : List ℕ) (span : EdgeSpan) (at p : ℕ) (pairs : List Pair) → point_spots path span at p (bare pairs) ≡ point_spots path span at p pairs
 points-bare path span at p [] = refl
 points-bare path span at p (pair ∷ pairs) = by (has_key (codes "point") pair) (points-bare path span (at + 1) (p + 1) pairs) (points-bare path span (at + 1) p pairs)
   where
@@ -69,17 +69,17 @@ points-bare path span at p (pair ∷ pairs) = by (has_key (codes "point") pair) 
         ∙ ap (λ (spots : List Spot). first (list_in pair.value) ++ spots) one
     by false one more = more
 
-line-bare : (path : List ℕ) (span : Span) (pairs : List Pair) → line_spots path span (bare pairs) ≡ line_spots path span pairs
+line-bare : (path : List ℕ) (span : EdgeSpan) (pairs : List Pair) → line_spots path span (bare pairs) ≡ line_spots path span pairs
 line-bare path span pairs = inside-bare (λ line points. point_spots line span 0 0 points) (λ path pairs. points-bare path span 0 0 pairs) (codes "Line") path pairs
 
-edge-bare : (path : List ℕ) (span : Span) (pairs : List Pair) → edge_spots path span (bare pairs) ≡ edge_spots path span pairs
+edge-bare : (path : List ℕ) (span : EdgeSpan) (pairs : List Pair) → edge_spots path span (bare pairs) ≡ edge_spots path span pairs
 edge-bare path span pairs = inside-bare (λ within list. line_spots within span list) (λ path pairs. line-bare path span pairs) (codes "graphics") path pairs
 
 counted-bare : (n : ℕ) (o : Option (List Pair)) → counted n (option_map bare o) ≡ counted n o
 counted-bare n None = refl
 counted-bare n (Some list) = refl
 
-pair-bare : (path : List ℕ) (spans : List Span) (n e : ℕ) (pair : Pair) → pair_spots path spans n e (bare_pair pair) ≡ pair_spots path spans n e pair
+pair-bare : (path : List ℕ) (spans : List EdgeSpan) (n e : ℕ) (pair : Pair) → pair_spots path spans n e (bare_pair pair) ≡ pair_spots path spans n e pair
 pair-bare path spans n e pair =
     let span = slice_index_or spans e no_span in
     ap (λ (spots : List Spot). spots ++ option_map_or (λ list. edge_spots path span list) (list_under (codes "edge") (bare_pair pair)) [])
@@ -89,7 +89,7 @@ pair-bare path spans n e pair =
     (ap (λ (o : Option (List Pair)). option_map_or (λ list. edge_spots path span list) o []) (list_under-bare (codes "edge") pair)
     ∙ maybe-bare (edge_spots path span) (edge-bare path span) (list_under (codes "edge") pair))
 
-graph_spots-bare : (path : List ℕ) (spans : List Span) (at n e : ℕ) (pairs : List Pair) → graph_spots path spans at n e (bare pairs) ≡ graph_spots path spans at n e pairs
+graph_spots-bare : (path : List ℕ) (spans : List EdgeSpan) (at n e : ℕ) (pairs : List Pair) → graph_spots path spans at n e (bare pairs) ≡ graph_spots path spans at n e pairs
 graph_spots-bare path spans at n e [] = refl
 graph_spots-bare path spans at n e (pair ∷ pairs) =
     let m = counted n (list_under (codes "node") pair) in
@@ -113,7 +113,7 @@ module _ (at : ℕ) (pairs : List Pair) (reading : Reading) where
 
   same_spots : graph_spots (at ∷ []) (spans_in (graph_of (bare pairs))) 0 0 0 (bare pairs) ≡ graph_spots (at ∷ []) (spans_in (graph_of pairs)) 0 0 0 pairs
   same_spots =
-      ap (λ (spans : List Span). graph_spots (at ∷ []) spans 0 0 0 (bare pairs)) (ap spans_in (graph_of-bare pairs) ∙ spans_in-bare (graph_of pairs))
+      ap (λ (spans : List EdgeSpan). graph_spots (at ∷ []) spans 0 0 0 (bare pairs)) (ap spans_in (graph_of-bare pairs) ∙ spans_in-bare (graph_of pairs))
       ∙ graph_spots-bare (at ∷ []) (spans_in (graph_of pairs)) 0 0 0 pairs
 
   reading_to_bare : IsGraphReading at pairs reading → IsGraphReading at (bare pairs) reading

@@ -4,7 +4,7 @@ use Rattle.std.specs.Prelude.{codes}
 use Rattle.compact_types.specs.declared.places.Axis.{Axis}
 use Rattle.gml_text.specs.declared.tree.Pair.{Pair}
 use Rattle.drawing_read.specs.declared.reading.Spot.{Spot}
-use Rattle.drawing_read.specs.declared.spans.Span.{Span}
+use Rattle.drawing_read.specs.declared.spans.EdgeSpan.{EdgeSpan}
 use Rattle.drawing_read.specs.Spots.{coordinate_spots, inside, point_spots, graph_spots}
 use Rattle.drawing_read.specs.Spans.{point_vertex, no_span}
 use Rattle.drawing_read.specs.Coordinates.{IsListNumber, IsPointNumber, IsCoordinate, of_axis}
@@ -47,14 +47,14 @@ point_from_start pairs point from number place index place_is index_is is =
     subst (λ (i : ℕ). IsPointNumber pairs i index point) place_same (subst (λ (n : ℕ). IsPointNumber pairs from n point) index_same is)
 
 -- the spots of the line of an edge
-abbrev line_spots : Span → List ℕ → List Pair → List Spot
+abbrev line_spots : EdgeSpan → List ℕ → List Pair → List Spot
 line_spots span line points = point_spots line span 0 0 points
 
 -- the spots of an edge's graphics
-abbrev graphics_spots : Span → List ℕ → List Pair → List Spot
+abbrev graphics_spots : EdgeSpan → List ℕ → List Pair → List Spot
 graphics_spots span within list = inside (codes "Line") within list (line_spots span)
 
-module _ (path : List ℕ) (spans : List Span) (graph : List Pair) (s : Spot) where
+module _ (path : List ℕ) (spans : List EdgeSpan) (graph : List Pair) (s : Spot) where
   -- the spot of a node
   node_case : (of : IsOfNode path 0 0 graph s) (within : IsInside (codes "graphics") (further path of.place) of.list (λ within list. coordinate_spots within of.index list) s) →
       IsOneOfBoth (further (further path of.place) within.place) of.index within.list s → IsCoordinate path spans graph s
@@ -74,7 +74,7 @@ module _ (path : List ℕ) (spans : List Span) (graph : List Pair) (s : Spot) wh
 
   module _ (of : IsOfEdge spans path 0 0 graph s) where
     -- the span of the edge, and the path to it
-    abbrev span_of : Span
+    abbrev span_of : EdgeSpan
     span_of = slice_index_or spans of.index no_span
 
     abbrev edge_path : List ℕ
@@ -129,7 +129,7 @@ module _ (path : List ℕ) (spans : List Span) (graph : List Pair) (s : Spot) wh
     edge_coordinate = by_graphics (list_of_inside (graphics_spots span_of) (codes "graphics") edge_path of.list s of.there)
 
 -- each spot of a graph is a coordinate of it
-pub spot_is_coordinate : (path : List ℕ) (spans : List Span) (graph : List Pair) (s : Spot) → Contains (graph_spots path spans 0 0 0 graph) s → IsCoordinate path spans graph s
+pub spot_is_coordinate : (path : List ℕ) (spans : List EdgeSpan) (graph : List Pair) (s : Spot) → Contains (graph_spots path spans 0 0 0 graph) s → IsCoordinate path spans graph s
 spot_is_coordinate path spans graph s there = by_kind (list_of_spot path spans 0 0 0 graph s there)
   where
     by_kind : IsOfEither path spans 0 0 0 graph s → IsCoordinate path spans graph s
@@ -137,7 +137,7 @@ spot_is_coordinate path spans graph s there = by_kind (list_of_spot path spans 0
     by_kind (inr of) = edge_coordinate path spans graph s of
 
 -- each coordinate of a graph is one of its spots
-pub coordinate_is_spot : (path : List ℕ) (spans : List Span) (graph : List Pair) {s : Spot} → IsCoordinate path spans graph s → Contains (graph_spots path spans 0 0 0 graph) s
+pub coordinate_is_spot : (path : List ℕ) (spans : List EdgeSpan) (graph : List Pair) {s : Spot} → IsCoordinate path spans graph s → Contains (graph_spots path spans 0 0 0 graph) s
 coordinate_is_spot path spans graph (of_node i n j x y node graphics axis number at both) =
     let s : Spot = record { path = path ++ i ∷ j ∷ of_axis axis x y ∷ []; vertex = n; axis = axis } in
     spot_of_list path spans 0 0 0 graph s

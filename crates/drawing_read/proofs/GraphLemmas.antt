@@ -9,7 +9,7 @@ use Rattle.drawing_read.specs.Lookups.{list_under, lists_under}
 use Rattle.drawing_read.specs.inner.Legible.{AreLegible}
 use Rattle.drawing_read.specs.inner.Passes.{IsFirstGraph, IsOnlyGraph}
 use Rattle.drawing_read.specs.declared.fault.DrawFault.TheVariants.{TwoGraphs}
-use Rattle.drawing_read.specs.declared.lookups.Found.{Found}
+use Rattle.drawing_read.specs.declared.lookups.FoundList.{FoundList}
 use Rattle.drawing_read.specs.Faults.{fault_of}
 use Rattle.drawing_read.proofs.LookupLemmas.{past_end}
 
@@ -82,14 +82,14 @@ list_there pair some none = by (graph_under pair) some none
     by (Some list) some none = absurd (cc)
 
 -- what was found behind the first graph
-pub two_graphs : (pairs : List Pair) (at : ℕ) (list rest : List Pair) (found : Option Found) → IsFirstGraph pairs at list → rest ≡ drop (suc at) pairs →
+pub two_graphs : (pairs : List Pair) (at : ℕ) (list rest : List Pair) (found : Option FoundList) → IsFirstGraph pairs at list → rest ≡ drop (suc at) pairs →
     MatchOption found (lists_under (codes "graph") rest ≡ []) (λ graph. IsFirstGraph rest graph.place graph.pairs.now) →
     is_some found ≡ true → fault_of (lists_under (codes "graph") pairs) ≡ Some TwoGraphs
 two_graphs pairs at list rest None first is next some = absurd (cc)
 two_graphs pairs at list rest (Some graph) first is next some =
     ap fault_of (first.lists ∙ ap (λ (rest : List Pair). list ∷ lists_under (codes "graph") rest) (sym is) ∙ ap (λ (lists : List (List Pair)). list ∷ lists) next.lists)
 
-pub one_graph : (pairs : List Pair) (at : ℕ) (list rest : List Pair) (found : Option Found) → IsFirstGraph pairs at list → rest ≡ drop (suc at) pairs →
+pub one_graph : (pairs : List Pair) (at : ℕ) (list rest : List Pair) (found : Option FoundList) → IsFirstGraph pairs at list → rest ≡ drop (suc at) pairs →
     MatchOption found (lists_under (codes "graph") rest ≡ []) (λ graph. IsFirstGraph rest graph.place graph.pairs.now) →
     is_some found ≡ false → IsOnlyGraph pairs at list
 one_graph pairs at list rest (Some graph) first is next none = absurd (cc)

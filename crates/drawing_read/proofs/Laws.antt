@@ -7,7 +7,7 @@ pub use Rattle.drawing_read.proofs.ReadingLimits.{reading_within_limits}
 -- alike trees have the same reading
 pub use Rattle.drawing_read.proofs.AlikeReadings.{reading_alike}
 -- a graph without a fault, kind by kind
-pub use Rattle.drawing_read.proofs.Faultless.{HasNoFault, has_no_fault, is_faultless}
+pub use Rattle.drawing_read.proofs.FaultlessGraphs.{HasNoFault, has_no_fault, is_faultless}
 -- the pieces of a graph with a node join its vertices
 pub use Rattle.drawing_read.proofs.EndLemmas.{end_below, pieces_join_vertices}
 -- the spots of a graph are its coordinates, in document order
@@ -17,6 +17,6 @@ pub use Rattle.drawing_read.proofs.SpotOrder.{graph_in_order}
 pub use Rattle.drawing_read.proofs.SpotVertices.{spot_vertex_below}
 -- searches in lists that are mapped
 pub use Rattle.drawing_read.proofs.AlikeLists.{position-map, prefix_len-map}
-pub use Rattle.drawing_read.proofs.Faultless.{none_mapped}
+pub use Rattle.drawing_read.proofs.FaultlessGraphs.{none_mapped}
 -- a tree as it is read from a text can be read as a drawing
 pub use Rattle.drawing_read.proofs.LegibleWords.{readable_legible}

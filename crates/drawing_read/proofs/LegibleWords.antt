@@ -9,19 +9,19 @@ use Rattle.gml_text.specs.Bytes.{is_key}
 use Rattle.gml_text.specs.Grammar.{IsReadable}
 use Rattle.gml_text.specs.Numerals.{is_whole_numeral}
 use Rattle.gml_text.specs.NumeralKinds.{is_numeral}
-use Rattle.gml_text.specs.RightWords.{pair_step, list_step, value_has_right_words, pair_has_right_words, have_right_words, has_right_words}
+use Rattle.gml_text.specs.RightWords.{pair_words_step, list_words_step, value_has_right_words, pair_has_right_words, have_right_words, has_right_words}
 use Rattle.gml_text.proofs.Laws.{list_all-map, tree_words, pair_words, value_words, EachValue, each_in, is_numeral-real}
-use Rattle.drawing_read.specs.Legible.{value_step, value_has_legible_words, pair_has_legible_words, have_legible_words, has_legible_words, IsLegible}
+use Rattle.drawing_read.specs.Legible.{value_legible_step, value_has_legible_words, pair_has_legible_words, have_legible_words, has_legible_words, IsLegible}
 
 -- the words of a tree are those of its pairs
 pub tree_legible : (tree : Tree) → has_legible_words tree ≡ have_legible_words (out-Tree tree).pairs
 tree_legible tree =
-    fold_out-Tree Bool Bool Bool value_step pair_step list_step tree
+    fold_out-Tree Bool Bool Bool value_legible_step pair_words_step list_words_step tree
     ∙ list_all-map pair_has_legible_words (out-Tree tree).pairs
 
 -- the words of a pair are its key and those of its value
 pub pair_legible : (pair : Pair) → pair_has_legible_words pair ≡ (is_key pair.key && value_has_legible_words pair.value)
-pair_legible pair = fold_out-Pair Bool Bool Bool value_step pair_step list_step pair
+pair_legible pair = fold_out-Pair Bool Bool Bool value_legible_step pair_words_step list_words_step pair
 
 -- whether the word of a value can be read, or the words of its tree
 abbrev pub has_legible_word : Value → Bool
@@ -32,10 +32,10 @@ has_legible_word (Inner tree) = has_legible_words tree
 
 pub value_legible : (value : Value) → value_has_legible_words value ≡ has_legible_word value
 unfolding out-Value denote.Hole.Carrier.out
-value_legible (Whole word) = fold_out-Value Bool Bool Bool value_step pair_step list_step (Whole word)
-value_legible (Real word) = fold_out-Value Bool Bool Bool value_step pair_step list_step (Real word)
-value_legible (Text inside) = fold_out-Value Bool Bool Bool value_step pair_step list_step (Text inside)
-value_legible (Inner tree) = fold_out-Value Bool Bool Bool value_step pair_step list_step (Inner tree)
+value_legible (Whole word) = fold_out-Value Bool Bool Bool value_legible_step pair_words_step list_words_step (Whole word)
+value_legible (Real word) = fold_out-Value Bool Bool Bool value_legible_step pair_words_step list_words_step (Real word)
+value_legible (Text inside) = fold_out-Value Bool Bool Bool value_legible_step pair_words_step list_words_step (Text inside)
+value_legible (Inner tree) = fold_out-Value Bool Bool Bool value_legible_step pair_words_step list_words_step (Inner tree)
 
 -- the words of the value can be read where they are right
 abbrev Reads : Value → Type 0

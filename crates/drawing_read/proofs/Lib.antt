@@ -1,13 +1,13 @@
 pub mod LegibleWords
 pub mod LegibleLemmas
 pub mod LookupLemmas
-pub mod Steps
+pub mod LoopSteps
 pub mod RefusedLemmas
 pub mod IdLemmas
 pub mod SmallLemmas
 pub mod LayoutLemmas
 pub mod RouteLemmas
-pub mod Faultless
+pub mod FaultlessGraphs
 pub mod EndLemmas
 pub mod GraphLemmas
 pub mod ReadingLemmas

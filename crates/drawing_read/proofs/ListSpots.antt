@@ -6,7 +6,7 @@ use Rattle.std.specs.Option.{option_map_or}
 use Rattle.std.proofs.lemmas.List.Elements.{Contains-append_left, Contains-append_right, Contains-append_cases}
 use Rattle.gml_text.specs.declared.tree.Pair.{Pair}
 use Rattle.drawing_read.specs.declared.reading.Spot.{Spot}
-use Rattle.drawing_read.specs.declared.spans.Span.{Span}
+use Rattle.drawing_read.specs.declared.spans.EdgeSpan.{EdgeSpan}
 use Rattle.drawing_read.specs.Lookups.{list_under, lists_under}
 use Rattle.drawing_read.specs.Spots.{node_spots, edge_spots, pair_spots, counted, graph_spots}
 use Rattle.drawing_read.specs.Spans.{no_span}
@@ -109,17 +109,17 @@ module _ (key : List ℕ) (spots : List ℕ → ℕ → List Pair → List Spot)
           })
 
 -- the spots of an edge by its number
-abbrev pub numbered_edge_spots : List Span → List ℕ → ℕ → List Pair → List Spot
+abbrev pub numbered_edge_spots : List EdgeSpan → List ℕ → ℕ → List Pair → List Spot
 numbered_edge_spots spans path e list = edge_spots path (slice_index_or spans e no_span) list
 
 -- a spot is one of a node, or of an edge, where the first pair has place `at`, the first node number n and the first edge number e
 abbrev pub IsOfNode : List ℕ → ℕ → ℕ → List Pair → Spot → Type 0
 IsOfNode path at n pairs spot = IsOfList (codes "node") node_spots path at n pairs spot
 
-abbrev pub IsOfEdge : List Span → List ℕ → ℕ → ℕ → List Pair → Spot → Type 0
+abbrev pub IsOfEdge : List EdgeSpan → List ℕ → ℕ → ℕ → List Pair → Spot → Type 0
 IsOfEdge spans path at e pairs spot = IsOfList (codes "edge") (numbered_edge_spots spans) path at e pairs spot
 
-abbrev pub IsOfEither : List ℕ → List Span → ℕ → ℕ → ℕ → List Pair → Spot → Type 0
+abbrev pub IsOfEither : List ℕ → List EdgeSpan → ℕ → ℕ → ℕ → List Pair → Spot → Type 0
 IsOfEither path spans at n e pairs spot = IsOfNode path at n pairs spot ⊎ IsOfEdge spans path at e pairs spot
 
 -- how many nodes, and how many edges, there are with a pair more
@@ -139,7 +139,7 @@ second_by : {A B C : Type 0} → (B → C) → A ⊎ B → A ⊎ C
 second_by f (inl a) = inl a
 second_by f (inr b) = inr (f b)
 
-module _ (path : List ℕ) (spans : List Span) (at n e : ℕ) (pair : Pair) (pairs : List Pair) (s : Spot) where
+module _ (path : List ℕ) (spans : List EdgeSpan) (at n e : ℕ) (pair : Pair) (pairs : List Pair) (s : Spot) where
   -- the spots of the first pair, if it is a node, and if it is an edge
   node_part : List Spot
   node_part = first_spots node_spots (path ++ at ∷ []) n (list_under (codes "node") pair)
@@ -177,7 +177,7 @@ module _ (path : List ℕ) (spans : List Span) (at n e : ℕ) (pair : Pair) (pai
       by_part (inr later) = inr (inr later)
 
 -- each spot of a graph is one of a node or of an edge
-pub list_of_spot : (path : List ℕ) (spans : List Span) (at n e : ℕ) (pairs : List Pair) (s : Spot) → Contains (graph_spots path spans at n e pairs) s →
+pub list_of_spot : (path : List ℕ) (spans : List EdgeSpan) (at n e : ℕ) (pairs : List Pair) (s : Spot) → Contains (graph_spots path spans at n e pairs) s →
     IsOfEither path spans at n e pairs s
 list_of_spot path spans at n e [] s there = absurd (none_there s there)
 list_of_spot path spans at n e (pair ∷ pairs) s there =
@@ -186,7 +186,7 @@ list_of_spot path spans at n e (pair ∷ pairs) s there =
     (Contains-append_cases (pair_spots (path ++ at ∷ []) spans n e pair) (graph_spots path spans (at + 1) (nodes_with n pair) (edges_with e pair) pairs) s there))
 
 -- each spot of a node or of an edge is one of the graph
-pub spot_of_list : (path : List ℕ) (spans : List Span) (at n e : ℕ) (pairs : List Pair) (s : Spot) → IsOfEither path spans at n e pairs s →
+pub spot_of_list : (path : List ℕ) (spans : List EdgeSpan) (at n e : ℕ) (pairs : List Pair) (s : Spot) → IsOfEither path spans at n e pairs s →
     Contains (graph_spots path spans at n e pairs) s
 spot_of_list path spans at n e [] s (inl of) = absurd (no_list (codes "node") node_spots path at n s of)
 spot_of_list path spans at n e [] s (inr of) = absurd (no_list (codes "edge") (numbered_edge_spots spans) path at e s of)

@@ -5,7 +5,7 @@ use Rattle.std.specs.Option.{option_map_or}
 use Rattle.std.proofs.lemmas.List.Elements.{Contains-append_left, Contains-append_right, Contains-append_cases}
 use Rattle.gml_text.specs.declared.tree.Pair.{Pair}
 use Rattle.drawing_read.specs.declared.reading.Spot.{Spot}
-use Rattle.drawing_read.specs.declared.spans.Span.{Span}
+use Rattle.drawing_read.specs.declared.spans.EdgeSpan.{EdgeSpan}
 use Rattle.drawing_read.specs.Lookups.{has_key, list_in, list_under}
 use Rattle.drawing_read.specs.Spots.{coordinate_spots, point_spots}
 use Rattle.drawing_read.specs.Spans.{point_vertex}
@@ -49,7 +49,7 @@ point_behind_other pair pairs point q k fails number = record {
 }
 
 -- a spot is one of a point of a line, whose first pair has place `at` and whose first point has number p
-pub record IsOfPoint (path : List ℕ) (span : Span) (at p : ℕ) (pairs : List Pair) (spot : Spot) : Type 0 where
+pub record IsOfPoint (path : List ℕ) (span : EdgeSpan) (at p : ℕ) (pairs : List Pair) (spot : Spot) : Type 0 where
   pub from : ℕ
   pub number : ℕ
   pub place : ℕ
@@ -61,7 +61,7 @@ pub record IsOfPoint (path : List ℕ) (span : Span) (at p : ℕ) (pairs : List 
   pub there : Contains (coordinate_spots (path ++ place ∷ []) (point_vertex span index) point) spot
 
 -- a spot of a point behind one more point
-behind_point : (path : List ℕ) (span : Span) (at p : ℕ) (pair : Pair) (pairs : List Pair) (s : Spot) → is_point pair ≡ true →
+behind_point : (path : List ℕ) (span : EdgeSpan) (at p : ℕ) (pair : Pair) (pairs : List Pair) (s : Spot) → is_point pair ≡ true →
     IsOfPoint path span (at + 1) (p + 1) pairs s → IsOfPoint path span at p (pair ∷ pairs) s
 behind_point path span at p pair pairs s passes of = record {
   from = suc of.from;
@@ -76,7 +76,7 @@ behind_point path span at p pair pairs s passes of = record {
 }
 
 -- a spot of a point behind another pair
-behind_other : (path : List ℕ) (span : Span) (at p : ℕ) (pair : Pair) (pairs : List Pair) (s : Spot) → is_point pair ≡ false →
+behind_other : (path : List ℕ) (span : EdgeSpan) (at p : ℕ) (pair : Pair) (pairs : List Pair) (s : Spot) → is_point pair ≡ false →
     IsOfPoint path span (at + 1) p pairs s → IsOfPoint path span at p (pair ∷ pairs) s
 behind_other path span at p pair pairs s fails of = record {
   from = suc of.from;
@@ -91,15 +91,15 @@ behind_other path span at p pair pairs s fails of = record {
 }
 
 -- the spots of the first pair, which is point p
-abbrev first_spots : List ℕ → Span → ℕ → ℕ → Option (List Pair) → List Spot
+abbrev first_spots : List ℕ → EdgeSpan → ℕ → ℕ → Option (List Pair) → List Spot
 first_spots path span at p list = option_map_or (λ list. coordinate_spots (path ++ at ∷ []) (point_vertex span p) list) list []
 
 -- the spots of a line are those of its first point, if its first pair is one, and of what is behind it
-abbrev tested : List ℕ → Span → ℕ → ℕ → Option (List Pair) → List Pair → Bool → List Spot
+abbrev tested : List ℕ → EdgeSpan → ℕ → ℕ → Option (List Pair) → List Pair → Bool → List Spot
 tested path span at p list pairs b = cond b (first_spots path span at p list ++ point_spots path span (at + 1) (p + 1) pairs) (point_spots path span (at + 1) p pairs)
 
 -- a spot of the first pair, which is a point
-first_of_point : (path : List ℕ) (span : Span) (at p : ℕ) (pair : Pair) (pairs : List Pair) (s : Spot) (list : Option (List Pair)) → is_point pair ≡ true →
+first_of_point : (path : List ℕ) (span : EdgeSpan) (at p : ℕ) (pair : Pair) (pairs : List Pair) (s : Spot) (list : Option (List Pair)) → is_point pair ≡ true →
     list_in pair.value ≡ list → Contains (first_spots path span at p list) s → IsOfPoint path span at p (pair ∷ pairs) s
 first_of_point path span at p pair pairs s None passes is there = absurd (none_there s there)
 first_of_point path span at p pair pairs s (Some point) passes is there = record {
@@ -115,7 +115,7 @@ first_of_point path span at p pair pairs s (Some point) passes is there = record
 }
 
 -- each spot of the points is one of a point
-pub point_of_spot : (path : List ℕ) (span : Span) (at p : ℕ) (pairs : List Pair) (s : Spot) → Contains (point_spots path span at p pairs) s → IsOfPoint path span at p pairs s
+pub point_of_spot : (path : List ℕ) (span : EdgeSpan) (at p : ℕ) (pairs : List Pair) (s : Spot) → Contains (point_spots path span at p pairs) s → IsOfPoint path span at p pairs s
 point_of_spot path span at p [] s there = absurd (none_there s there)
 point_of_spot path span at p (pair ∷ pairs) s there =
     by_test (is_point pair) refl (point_of_spot path span (at + 1) (p + 1) pairs s) (point_of_spot path span (at + 1) p pairs s) there
@@ -132,7 +132,7 @@ point_of_spot path span at p (pair ∷ pairs) s there =
     by_test false fails one more there = behind_other path span at p pair pairs s fails (more there)
 
 -- each spot of a point, told by its place and its number, is one of the points' spots
-spot_of_number : (path : List ℕ) (span : Span) (at p : ℕ) (pairs : List Pair) (s : Spot) (from number place index : ℕ) (point : List Pair) →
+spot_of_number : (path : List ℕ) (span : EdgeSpan) (at p : ℕ) (pairs : List Pair) (s : Spot) (from number place index : ℕ) (point : List Pair) →
     place ≡ at + from → index ≡ p + number → IsPointNumber pairs from number point →
     Contains (coordinate_spots (path ++ place ∷ []) (point_vertex span index) point) s → Contains (point_spots path span at p pairs) s
 spot_of_number path span at p [] s from number place index point place_is index_is is there = let none : None ≡ Some point = is.there in absurd (cc)
@@ -170,6 +170,6 @@ spot_of_number path span at p (pair ∷ pairs) s (suc from) number place index p
         subst P (sym (ap (tested path span at p (list_in pair.value) pairs) fails)) (more number index_is (record { there = is.there; before = before }))
 
 -- each spot of a point is one of the points' spots
-pub spot_of_point : (path : List ℕ) (span : Span) (at p : ℕ) (pairs : List Pair) (s : Spot) → IsOfPoint path span at p pairs s → Contains (point_spots path span at p pairs) s
+pub spot_of_point : (path : List ℕ) (span : EdgeSpan) (at p : ℕ) (pairs : List Pair) (s : Spot) → IsOfPoint path span at p pairs s → Contains (point_spots path span at p pairs) s
 spot_of_point path span at p pairs s of =
     spot_of_number path span at p pairs s of.from of.number of.place of.index of.point of.place_is of.index_is of.is of.there

@@ -21,7 +21,7 @@ use Rattle.drawing_read.specs.Lookups.{lists_under}
 use Rattle.drawing_read.specs.inner.Passes.{IsOnlyGraph}
 use Rattle.drawing_read.proofs.GraphLemmas.{is_graph}
 use Rattle.drawing_read.proofs.EndLemmas.{pieces_join_vertices}
-use Rattle.drawing_read.proofs.Faultless.{has_no_fault}
+use Rattle.drawing_read.proofs.FaultlessGraphs.{has_no_fault}
 
 same_reading : (r s : Reading) → r.plan ≡ s.plan → r.places.xy ≡ s.places.xy → r.spots ≡ s.spots → r ≡ s
 same_reading r s plan places spots = λ i. record { plan = plan i; places = record { xy = places i }; spots = spots i }

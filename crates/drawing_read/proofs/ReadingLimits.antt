@@ -28,13 +28,13 @@ use Rattle.drawing_read.specs.declared.reading.Reading.{Reading}
 use Rattle.drawing_read.specs.Lookups.{has_key, list_in, list_under, first_under, first_list}
 use Rattle.gml_text.specs.Thousandths.{times_ten, within_range, thousandths_of}
 use Rattle.drawing_read.specs.Numerals.{numeral_in, number_of, number_under, numbers_in}
-use Rattle.drawing_read.specs.Written.{node_of, node_in, point_in, line_of, edge_of, edge_in, graph_of}
+use Rattle.drawing_read.specs.Written.{written_node, node_in, point_in, line_pairs, edge_of, edge_in, graph_of}
 use Rattle.drawing_read.specs.Ids.{ids_of, number_of_id}
 use Rattle.drawing_read.specs.Routes.{Route, value_of, point_of, node_points, route_of}
 use Rattle.drawing_read.specs.Spans.{begins_at, ends_at, after_first_at, before_last_at, bends_of, points_in}
 use Rattle.drawing_read.specs.Faults.{graphs_of}
 use Rattle.drawing_read.specs.Readings.{graph_place, IsGraphReading, IfOne, IsReading, IsWithinLimits}
-use Rattle.drawing_read.proofs.Faultless.{has_no_fault}
+use Rattle.drawing_read.proofs.FaultlessGraphs.{has_no_fault}
 
 -- the number is within reach
 abbrev IsNear : ℤ → Type 0
@@ -120,7 +120,7 @@ numbers_near pairs = both_near (number_under (codes "x") pairs) (number_under (c
 -- what is written
 
 node_near : (pair : Pair) → IfSome (node_in pair) (λ node. MayBeNear node.place)
-node_near pair = some_map node_of (λ node. MayBeNear node.place)
+node_near pair = some_map written_node (λ node. MayBeNear node.place)
     (λ pairs. some_and_then numbers_in AreNear numbers_near (first_list (codes "graphics") pairs)) (list_under (codes "node") pair)
 
 point_near : (pair : Pair) → IfSome (point_in pair) MayBeNear
@@ -132,7 +132,7 @@ point_near pair = where_keyed (has_key (codes "point") pair)
 
 edge_near : (pair : Pair) → IfSome (edge_in pair) (λ edge. All MayBeNear edge.points)
 edge_near pair = some_map edge_of (λ edge. All MayBeNear edge.points)
-    (λ pairs. all_filter_map point_in MayBeNear point_near (line_of pairs)) (list_under (codes "edge") pair)
+    (λ pairs. all_filter_map point_in MayBeNear point_near (line_pairs pairs)) (list_under (codes "edge") pair)
 
 -- the points
 

@@ -9,9 +9,9 @@ use Rattle.compact_types.specs.Lookups.{place}
 use Rattle.drawing_read.specs.declared.written.Node.{Node}
 use Rattle.drawing_read.specs.declared.written.Edge.{Edge}
 use Rattle.drawing_read.specs.declared.written.Graph.{Graph}
-use Rattle.drawing_read.specs.declared.spans.Span.{Span}
+use Rattle.drawing_read.specs.declared.spans.EdgeSpan.{EdgeSpan}
 use Rattle.drawing_read.specs.inner.Legible.{most_pairs}
-use Rattle.drawing_read.specs.inner.Passes.{point_count, IsSmall}
+use Rattle.drawing_read.specs.inner.Passes.{point_count, CanBeCounted}
 use Rattle.drawing_read.specs.Spans.{begins_at, ends_at, after_first_at, before_last_at, bends_of, spans_from, chain, pieces_of, points_in, spans_in, pieces_in}
 use Rattle.drawing_read.specs.Ids.{number_of_id, ids_of}
 use Rattle.drawing_read.specs.Routes.{Route, point_of, route_of, routes_by, node_points}
@@ -55,7 +55,7 @@ few_bends nodes look (edge ∷ edges) =
     )
 
 -- the vertices are few
-pub few_points : (graph : Graph) → IsSmall graph → length (points_in graph) ≤ most_pairs
+pub few_points : (graph : Graph) → CanBeCounted graph → length (points_in graph) ≤ most_pairs
 few_points graph small =
     let look = number_of_id (ids_of graph.nodes) in
     omega (
@@ -84,7 +84,7 @@ pieces_from nodes first (route ∷ routes) =
     )
 
 -- the pieces are few
-pub few_pieces : (graph : Graph) → IsSmall graph → length (pieces_in graph) ≤ most_pairs + most_pairs
+pub few_pieces : (graph : Graph) → CanBeCounted graph → length (pieces_in graph) ≤ most_pairs + most_pairs
 few_pieces graph small =
     let look = number_of_id (ids_of graph.nodes) in
     omega (
@@ -98,14 +98,14 @@ few_pieces graph small =
 
 -- the numbers of the bends end below the number of vertices
 spans_end : (nodes : List Point) (first most : ℕ) (routes : List Route) → first + length (all_bends nodes routes) ≤ most →
-    All (λ (span : Span). span.first + span.bends ≤ most) (spans_from nodes first routes)
+    All (λ (span : EdgeSpan). span.first + span.bends ≤ most) (spans_from nodes first routes)
 spans_end nodes first most [] within k d below = absurd (omega arith)
 spans_end nodes first most (route ∷ routes) within zero d below = omega (arith, bends_cons nodes route routes)
 spans_end nodes first most (route ∷ routes) within (suc k) d below =
     spans_end nodes (first + length (bends_of nodes route)) most routes (omega (arith, bends_cons nodes route routes)) k d (omega arith)
 
 -- they can be counted
-pub spans_fit : (graph : Graph) → IsSmall graph → All (λ (span : Span). span.first + span.bends < 2 ^ 32) (spans_in graph)
+pub spans_fit : (graph : Graph) → CanBeCounted graph → All (λ (span : EdgeSpan). span.first + span.bends < 2 ^ 32) (spans_in graph)
 spans_fit graph small k d below =
     let nodes = node_points graph.nodes in
     let routes = routes_by (number_of_id (ids_of graph.nodes)) graph in

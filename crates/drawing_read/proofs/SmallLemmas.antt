@@ -10,11 +10,11 @@ use Rattle.gml_text.specs.declared.tree.Value.{Value}
 use Rattle.gml_text.specs.declared.tree.Value.TheVariants.{Whole, Real, Text, Inner}
 use Rattle.drawing_read.specs.declared.written.Edge.{Edge}
 use Rattle.drawing_read.specs.Lookups.{has_key, list_in, first_under, first_list}
-use Rattle.drawing_read.specs.Written.{node_in, edge_of, edge_in, point_in, line_of, graph_of}
+use Rattle.drawing_read.specs.Written.{node_in, edge_of, edge_in, point_in, line_pairs, graph_of}
 use Rattle.gml_text.specs.PairCounts.{count_in_value, count_in_pair}
 use Rattle.gml_text.proofs.Laws.{pair_with_value, tree_count, value_count}
 use Rattle.drawing_read.specs.inner.Legible.{AreLegible}
-use Rattle.drawing_read.specs.inner.Passes.{point_count, IsSmall}
+use Rattle.drawing_read.specs.inner.Passes.{point_count, CanBeCounted}
 
 abbrev weight : List Pair → ℕ
 weight pairs = sum_by count_in_pair pairs
@@ -58,7 +58,7 @@ inside_below key pairs None is = omega arith
 inside_below key pairs (Some list) is = first_below key pairs list is
 
 -- so does the line of an edge
-line_below : (pairs : List Pair) → weight (line_of pairs) ≤ weight pairs
+line_below : (pairs : List Pair) → weight (line_pairs pairs) ≤ weight pairs
 line_below pairs = by (first_list (codes "graphics") pairs) refl
   where
     by : (o : Option (List Pair)) → first_list (codes "graphics") pairs ≡ o → weight (unwrap_or (option_and_then (first_list (codes "Line")) o) []) ≤ weight pairs
@@ -75,7 +75,7 @@ kept_below h [] = omega arith
 kept_below h (pair ∷ pairs) = kept_next pair pairs (h pair) (filter_map h pairs) (kept_below h pairs)
 
 edge_points : (pairs : List Pair) → length (edge_of pairs).points ≤ weight pairs
-edge_points pairs = omega (arith, kept_below point_in (line_of pairs), line_below pairs)
+edge_points pairs = omega (arith, kept_below point_in (line_pairs pairs), line_below pairs)
 
 -- an edge has no more points than its pair's value has pairs
 edge_below : (pair : Pair) (edge : Edge) → edge_in pair ≡ Some edge → length edge.points ≤ count_in_value pair.value
@@ -109,7 +109,7 @@ kept_and_points h [] = omega arith
 kept_and_points h (pair ∷ pairs) =
     omega (arith, weight_cons pair pairs, length_next (h pair) (filter_map h pairs), points_next pair (edge_in pair) (filter_map edge_in pairs) refl, kept_and_points h pairs)
 
-pub graph_small : (pairs : List Pair) → AreLegible pairs → IsSmall (graph_of pairs)
+pub graph_small : (pairs : List Pair) → AreLegible pairs → CanBeCounted (graph_of pairs)
 graph_small pairs legible = record {
   nodes = omega (arith, kept_below node_in pairs, legible.few);
   edges = omega (arith, kept_below edge_in pairs, legible.few);

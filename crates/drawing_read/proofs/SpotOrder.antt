@@ -5,7 +5,7 @@ use Rattle.std.specs.Option.{option_map_or}
 use Rattle.std.proofs.lemmas.List.Elements.{Contains-append_cases}
 use Rattle.gml_text.specs.declared.tree.Pair.{Pair}
 use Rattle.drawing_read.specs.declared.reading.Spot.{Spot}
-use Rattle.drawing_read.specs.declared.spans.Span.{Span}
+use Rattle.drawing_read.specs.declared.spans.EdgeSpan.{EdgeSpan}
 use Rattle.drawing_read.specs.Lookups.{has_key, list_in, list_under}
 use Rattle.drawing_read.specs.Spots.{coordinate_spots, inside, node_spots, point_spots, edge_spots, pair_spots, counted, graph_spots}
 use Rattle.drawing_read.specs.Spans.{point_vertex, no_span}
@@ -20,7 +20,7 @@ abbrev one_point_spots : List ℕ → ℕ → Pair → List Spot
 one_point_spots path v pair = option_map_or (λ list. coordinate_spots path v list) (list_in pair.value) []
 
 -- the spots of the points of a line stand from the first pair on
-points_from : (path : List ℕ) (span : Span) (at p : ℕ) (pairs : List Pair) (s : Spot) → Contains (point_spots path span at p pairs) s → IsFrom path at s
+points_from : (path : List ℕ) (span : EdgeSpan) (at p : ℕ) (pairs : List Pair) (s : Spot) → Contains (point_spots path span at p pairs) s → IsFrom path at s
 points_from path span at p pairs s there = by_point (point_of_spot path span at p pairs s there)
   where
     by_point : IsOfPoint path span at p pairs s → IsFrom path at s
@@ -29,7 +29,7 @@ points_from path span at p pairs s there = by_point (point_of_spot path span at 
         from_behind path at of.place s within ((coordinates_orderly (point_vertex span of.index)).behind (path ++ of.place ∷ []) of.point s of.there)
 
 -- they are in order
-points_in_order : (path : List ℕ) (span : Span) (at p : ℕ) (pairs : List Pair) → AreInDocumentOrder (point_spots path span at p pairs)
+points_in_order : (path : List ℕ) (span : EdgeSpan) (at p : ℕ) (pairs : List Pair) → AreInDocumentOrder (point_spots path span at p pairs)
 points_in_order path span at p [] = tt
 points_in_order path span at p (pair ∷ pairs) =
     by_test (has_key (codes "point") pair) (points_in_order path span (at + 1) (p + 1) pairs) (points_in_order path span (at + 1) p pairs)
@@ -51,7 +51,7 @@ from_is_behind : (path : List ℕ) (at : ℕ) (s : Spot) → IsFrom path at s �
 from_is_behind path at s from = (from.place ∷ from.rest, from.is)
 
 -- the spots of the points of a line are in order behind the path to it
-line_orderly : (span : Span) → AreOrderly (λ line points. point_spots line span 0 0 points)
+line_orderly : (span : EdgeSpan) → AreOrderly (λ line points. point_spots line span 0 0 points)
 line_orderly span = record {
   behind = λ path list s there. from_is_behind path 0 s (points_from path span 0 0 list s there);
   in_order = λ path list. points_in_order path span 0 0 list;
@@ -62,7 +62,7 @@ node_orderly : (n : ℕ) → AreOrderly (λ path list. node_spots path n list)
 node_orderly n = inside_orderly (λ within list. coordinate_spots within n list) (coordinates_orderly n) (codes "graphics")
 
 -- so are those of an edge
-edge_orderly : (span : Span) → AreOrderly (λ path list. edge_spots path span list)
+edge_orderly : (span : EdgeSpan) → AreOrderly (λ path list. edge_spots path span list)
 edge_orderly span =
     inside_orderly (λ within list. inside (codes "Line") within list (λ line points. point_spots line span 0 0 points))
     (inside_orderly (λ line points. point_spots line span 0 0 points) (line_orderly span) (codes "Line")) (codes "graphics")
@@ -71,11 +71,11 @@ edge_orderly span =
 abbrev one_node_spots : List ℕ → ℕ → Pair → List Spot
 one_node_spots path n pair = option_map_or (λ list. node_spots path n list) (list_under (codes "node") pair) []
 
-abbrev one_edge_spots : List ℕ → Span → Pair → List Spot
+abbrev one_edge_spots : List ℕ → EdgeSpan → Pair → List Spot
 one_edge_spots path span pair = option_map_or (λ list. edge_spots path span list) (list_under (codes "edge") pair) []
 
 -- the spots of a pair are in order, since it is not both a node and an edge
-pair_in_order : (path : List ℕ) (spans : List Span) (n e : ℕ) (pair : Pair) → AreInDocumentOrder (pair_spots path spans n e pair)
+pair_in_order : (path : List ℕ) (spans : List EdgeSpan) (n e : ℕ) (pair : Pair) → AreInDocumentOrder (pair_spots path spans n e pair)
 pair_in_order path spans n e pair =
     let span = slice_index_or spans e no_span in
     in_order_together (one_node_spots path n pair) (one_edge_spots path span pair)
@@ -85,7 +85,7 @@ pair_in_order path spans n e pair =
     (key_of_spot (edge_spots path span) (codes "edge") pair t edge)))
 
 -- they are behind the path to the pair
-pair_behind : (path : List ℕ) (spans : List Span) (n e : ℕ) (pair : Pair) (s : Spot) → Contains (pair_spots path spans n e pair) s → IsBehind path s
+pair_behind : (path : List ℕ) (spans : List EdgeSpan) (n e : ℕ) (pair : Pair) (s : Spot) → Contains (pair_spots path spans n e pair) s → IsBehind path s
 pair_behind path spans n e pair s there =
     by_kind (Contains-append_cases (one_node_spots path n pair) (one_edge_spots path (slice_index_or spans e no_span) pair) s there)
   where
@@ -96,7 +96,7 @@ pair_behind path spans n e pair s there =
         (list_under (codes "edge") pair) s there
 
 -- the spots of the pairs of a graph stand from the first pair on
-graph_from : (path : List ℕ) (spans : List Span) (at n e : ℕ) (pairs : List Pair) (s : Spot) → Contains (graph_spots path spans at n e pairs) s → IsFrom path at s
+graph_from : (path : List ℕ) (spans : List EdgeSpan) (at n e : ℕ) (pairs : List Pair) (s : Spot) → Contains (graph_spots path spans at n e pairs) s → IsFrom path at s
 graph_from path spans at n e pairs s there = by_kind (list_of_spot path spans at n e pairs s there)
   where
     by_kind : IsOfEither path spans at n e pairs s → IsFrom path at s
@@ -108,7 +108,7 @@ graph_from path spans at n e pairs s there = by_kind (list_of_spot path spans at
         from_behind path at of.place s within ((edge_orderly (slice_index_or spans of.index no_span)).behind (path ++ of.place ∷ []) of.list s of.there)
 
 -- the spots of a graph are in document order
-pub graph_in_order : (path : List ℕ) (spans : List Span) (at n e : ℕ) (pairs : List Pair) → AreInDocumentOrder (graph_spots path spans at n e pairs)
+pub graph_in_order : (path : List ℕ) (spans : List EdgeSpan) (at n e : ℕ) (pairs : List Pair) → AreInDocumentOrder (graph_spots path spans at n e pairs)
 graph_in_order path spans at n e [] = tt
 graph_in_order path spans at n e (pair ∷ pairs) =
     let m = counted n (list_under (codes "node") pair) in

@@ -10,7 +10,7 @@ use Rattle.gml_text.specs.declared.tree.Tree.{Tree}
 use Rattle.gml_text.specs.declared.tree.Pair.{Pair}
 use Rattle.drawing_read.specs.declared.reading.Reading.{Reading}
 use Rattle.drawing_read.specs.declared.reading.Spot.{Spot}
-use Rattle.drawing_read.specs.declared.spans.Span.{Span}
+use Rattle.drawing_read.specs.declared.spans.EdgeSpan.{EdgeSpan}
 use Rattle.drawing_read.specs.declared.written.Node.{Node}
 use Rattle.drawing_read.specs.declared.written.Edge.{Edge}
 use Rattle.drawing_read.specs.declared.written.Graph.{Graph}
@@ -22,18 +22,18 @@ use Rattle.drawing_read.specs.Lookups.{list_under, lists_under}
 use Rattle.drawing_read.specs.Readings.{graph_place, IsGraphReading, IfOne, IsReading}
 use Rattle.drawing_read.specs.Routes.{point_of, node_points, route_of, routes_by}
 use Rattle.drawing_read.specs.Spans.{bends_of, spans_from, spans_in, points_in, no_span, point_vertex}
-use Rattle.drawing_read.specs.Written.{node_of, node_in, graph_of}
+use Rattle.drawing_read.specs.Written.{written_node, node_in, graph_of}
 use Rattle.drawing_read.proofs.CoordinateCases.{spot_is_coordinate}
 use Rattle.drawing_read.proofs.EndLemmas.{end_below}
-use Rattle.drawing_read.proofs.Faultless.{has_no_fault}
+use Rattle.drawing_read.proofs.FaultlessGraphs.{has_no_fault}
 use Rattle.drawing_read.proofs.RouteLemmas.{all_bends, bends_cons}
 
 -- the ends and the bends of an edge are below a bound
-abbrev IsBelow : ℕ → Span → Type 0
+abbrev IsBelow : ℕ → EdgeSpan → Type 0
 IsBelow most span = (span.source < most) × (span.target < most) × (span.first + span.bends ≤ most)
 
 -- so are its points
-point_below : (most : ℕ) (span : Span) (p : ℕ) → IsBelow most span → point_vertex span p < most
+point_below : (most : ℕ) (span : EdgeSpan) (p : ℕ) → IsBelow most span → point_vertex span p < most
 point_below most span p (source, target, bends) =
     cond_both (nat_lt p span.at_source) span.source _ (λ (v : ℕ). v < most) (λ first. source)
     (λ later.
@@ -85,7 +85,7 @@ nodes_counted [] = refl
 nodes_counted (pair ∷ pairs) = by_list (list_under (codes "node") pair) (nodes_counted pairs)
   where
     by_list : (o : Option (List Pair)) → length (filter_map node_in pairs) ≡ length (lists_under (codes "node") pairs) →
-        length (cons_option (option_map node_of o) (filter_map node_in pairs)) ≡ length (cons_option o (lists_under (codes "node") pairs))
+        length (cons_option (option_map written_node o) (filter_map node_in pairs)) ≡ length (cons_option o (lists_under (codes "node") pairs))
     by_list None rest = rest
     by_list (Some list) rest = omega (arith, rest)
 

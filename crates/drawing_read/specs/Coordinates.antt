@@ -6,7 +6,7 @@ use Rattle.gml_text.specs.declared.tree.Pair.{Pair}
 use Rattle.compact_types.specs.declared.places.Axis.{Axis}
 use Rattle.compact_types.specs.declared.places.Axis.TheVariants.{X, Y}
 use Rattle.drawing_read.specs.declared.reading.Spot.{Spot}
-use Rattle.drawing_read.specs.declared.spans.Span.{Span}
+use Rattle.drawing_read.specs.declared.spans.EdgeSpan.{EdgeSpan}
 use Rattle.drawing_read.specs.Lookups.{has_key, list_under, lists_under, place_under, IsListAt}
 use Rattle.drawing_read.specs.Spans.{point_vertex, no_span}
 
@@ -33,7 +33,8 @@ of_axis Y x y = y
 
 -- a coordinate of a graph that this path leads to: the x or the y of a node, or of a point of an
 -- edge
-pub data IsCoordinate (path : List ℕ) (spans : List Span) (graph : List Pair) : Spot → Type 0 where
+pub data IsCoordinate (path : List ℕ) (spans : List EdgeSpan) (graph : List Pair) : Spot →
+    Type 0 where
   of_node : (i n j x y : ℕ) (node graphics : List Pair) (axis : Axis) →
       IsListNumber (codes "node") graph i n node → IsListAt (codes "graphics") node j graphics →
       HasBoth graphics x y →

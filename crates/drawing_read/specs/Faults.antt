@@ -52,8 +52,8 @@ both_numbers None = []
 both_numbers (Some numbers) = numbers.x ∷ numbers.y ∷ []
 
 -- the numbers of the nodes' places, and of the points that have both
-abbrev pub numbers_of : Graph → List Number
-numbers_of graph =
+abbrev pub numbers_in_graph : Graph → List Number
+numbers_in_graph graph =
     flat_map (λ node. both_numbers node.place) graph.nodes
     ++ flat_map (λ edge. flat_map both_numbers edge.points) graph.edges
 
@@ -106,7 +106,7 @@ faults_in graph =
     ∷ option_map (λ n. kinds.RepeatedId n) (first_repeated (ids_of graph.nodes))
     ∷ option_map (λ n. kinds.NoPlace n) (position (λ node. is_none node.place) graph.nodes)
     ∷ option_map (λ number. kinds.BadNumber number.at number.cause)
-    (first_refused (numbers_of graph))
+    (first_refused (numbers_in_graph graph))
     ∷ option_map (λ e. kinds.NoEnd e) (position lacks_end graph.edges)
     ∷ option_map (λ e. kinds.UnknownEnd e)
     (position (has_unknown_end (number_of_id (ids_of graph.nodes))) graph.edges)

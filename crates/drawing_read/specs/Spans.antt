@@ -9,7 +9,7 @@ use Rattle.compact_types.specs.declared.places.Point.{Point}
 use Rattle.compact_types.specs.declared.plan.Piece.{Piece}
 use Rattle.compact_types.specs.Lookups.{place}
 use Rattle.drawing_read.specs.declared.written.Graph.{Graph}
-use Rattle.drawing_read.specs.declared.spans.Span.{Span}
+use Rattle.drawing_read.specs.declared.spans.EdgeSpan.{EdgeSpan}
 use Rattle.drawing_read.specs.Ids.{ids_of, number_of_id}
 use Rattle.drawing_read.specs.Routes.{Route, node_points, routes_by}
 
@@ -51,8 +51,8 @@ abbrev pub vertex_points : List Point → List Route → List Point
 vertex_points nodes routes = nodes ++ flat_map (bends_of nodes) routes
 
 -- an edge by the numbers of its vertices, where its bends begin with this number
-abbrev pub span_of : List Point → ℕ → Route → Span
-span_of nodes first route = record {
+abbrev pub edge_span : List Point → ℕ → Route → EdgeSpan
+edge_span nodes first route = record {
   source = route.source;
   target = route.target;
   at_source = points_at_source nodes route;
@@ -61,22 +61,22 @@ span_of nodes first route = record {
 }
 
 -- the same of some edges, where the bends of the first begin with this number
-abbrev pub spans_from : List Point → ℕ → List Route → List Span
+abbrev pub spans_from : List Point → ℕ → List Route → List EdgeSpan
 spans_from nodes first [] = []
 spans_from nodes first (route ∷ routes) =
-    span_of nodes first route
+    edge_span nodes first route
     ∷ spans_from nodes (first + length (bends_of nodes route)) routes
 
 -- the edges in order, the bends of each numbered behind those of the edges before it
-abbrev pub spans_of : List Point → List Route → List Span
+abbrev pub spans_of : List Point → List Route → List EdgeSpan
 spans_of nodes routes = spans_from nodes (length nodes) routes
 
 -- the span that stands for one that is not there
-abbrev pub no_span : Span
+abbrev pub no_span : EdgeSpan
 no_span = record { source = 0; target = 0; at_source = 0; first = 0; bends = 0 }
 
 -- the vertex of point p of an edge: its source, one of its bends or its target
-abbrev pub point_vertex : Span → ℕ → ℕ
+abbrev pub point_vertex : EdgeSpan → ℕ → ℕ
 point_vertex span p =
     if nat_lt p span.at_source then span.source
     else if nat_lt (p - span.at_source) span.bends then span.first + (p - span.at_source)
@@ -88,11 +88,11 @@ chain from [] to = record { from = from; to = to } ∷ []
 chain from (bend ∷ bends) to = record { from = from; to = bend } ∷ chain bend bends to
 
 -- the pieces of an edge, from its source along its bends to its target
-abbrev pub span_pieces : Span → List Piece
+abbrev pub span_pieces : EdgeSpan → List Piece
 span_pieces span = chain span.source (range_with_len span.first span.bends) span.target
 
 -- the pieces of all edges, in order
-abbrev pub pieces_of : List Span → List Piece
+abbrev pub pieces_of : List EdgeSpan → List Piece
 pieces_of spans = flat_map span_pieces spans
 
 -- the places of the vertices of a graph, where `look` tells which node has an id
@@ -100,7 +100,7 @@ abbrev pub points_by : (ℤ → Option ℕ) → Graph → List Point
 points_by look graph = vertex_points (node_points graph.nodes) (routes_by look graph)
 
 -- its edges by the numbers of their vertices
-abbrev pub spans_by : (ℤ → Option ℕ) → Graph → List Span
+abbrev pub spans_by : (ℤ → Option ℕ) → Graph → List EdgeSpan
 spans_by look graph = spans_of (node_points graph.nodes) (routes_by look graph)
 
 -- the places of the vertices of a graph
@@ -108,7 +108,7 @@ abbrev pub points_in : Graph → List Point
 points_in graph = points_by (number_of_id (ids_of graph.nodes)) graph
 
 -- the edges of a graph by the numbers of their vertices
-abbrev pub spans_in : Graph → List Span
+abbrev pub spans_in : Graph → List EdgeSpan
 spans_in graph = spans_by (number_of_id (ids_of graph.nodes)) graph
 
 -- the pieces of a graph

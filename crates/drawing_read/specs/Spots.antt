@@ -6,7 +6,7 @@ use Rattle.gml_text.specs.declared.tree.Pair.{Pair}
 use Rattle.compact_types.specs.declared.places.Axis.{Axis}
 use Rattle.compact_types.specs.declared.places.Axis.TheVariants.{X, Y}
 use Rattle.drawing_read.specs.declared.reading.Spot.{Spot}
-use Rattle.drawing_read.specs.declared.spans.Span.{Span}
+use Rattle.drawing_read.specs.declared.spans.EdgeSpan.{EdgeSpan}
 use Rattle.drawing_read.specs.Lookups.{has_key, list_in, list_under, first_list, place_under}
 use Rattle.drawing_read.specs.Spans.{point_vertex, no_span}
 
@@ -40,7 +40,7 @@ node_spots path vertex pairs =
     inside (codes "graphics") path pairs (λ within list. coordinate_spots within vertex list)
 
 -- the spots of the points of a line: `at` counts its pairs, and p its points
-abbrev pub point_spots : List ℕ → Span → ℕ → ℕ → List Pair → List Spot
+abbrev pub point_spots : List ℕ → EdgeSpan → ℕ → ℕ → List Pair → List Spot
 point_spots path span at p [] = []
 point_spots path span at p (pair ∷ pairs) =
     if has_key (codes "point") pair
@@ -51,17 +51,17 @@ point_spots path span at p (pair ∷ pairs) =
     else point_spots path span (at + 1) p pairs
 
 -- the spots of the line in an edge's graphics
-abbrev pub line_spots : List ℕ → Span → List Pair → List Spot
+abbrev pub line_spots : List ℕ → EdgeSpan → List Pair → List Spot
 line_spots path span pairs =
     inside (codes "Line") path pairs (λ line points. point_spots line span 0 0 points)
 
 -- the spots of an edge
-abbrev pub edge_spots : List ℕ → Span → List Pair → List Spot
+abbrev pub edge_spots : List ℕ → EdgeSpan → List Pair → List Spot
 edge_spots path span pairs =
     inside (codes "graphics") path pairs (λ within list. line_spots within span list)
 
 -- the spots of a pair of the graph, if it is node n or edge e
-abbrev pub pair_spots : List ℕ → List Span → ℕ → ℕ → Pair → List Spot
+abbrev pub pair_spots : List ℕ → List EdgeSpan → ℕ → ℕ → Pair → List Spot
 pair_spots path spans n e pair =
     option_map_or (λ list. node_spots path n list) (list_under (codes "node") pair) []
     ++ option_map_or
@@ -74,7 +74,7 @@ counted n None = n
 counted n (Some list) = n + 1
 
 -- the spots of the pairs of a graph: `at` counts the pairs, n the nodes and e the edges before them
-abbrev pub graph_spots : List ℕ → List Span → ℕ → ℕ → ℕ → List Pair → List Spot
+abbrev pub graph_spots : List ℕ → List EdgeSpan → ℕ → ℕ → ℕ → List Pair → List Spot
 graph_spots path spans at n e [] = []
 graph_spots path spans at n e (pair ∷ pairs) =
     pair_spots (path ++ at ∷ []) spans n e pair

@@ -13,15 +13,15 @@ use Rattle.drawing_read.specs.Lookups.{has_key, list_in, list_under, first_list}
 use Rattle.drawing_read.specs.Numerals.{numbers_in, whole_under}
 
 -- a node: its id, and its place in its graphics
-abbrev pub node_of : List Pair → Node
-node_of pairs = record {
+abbrev pub written_node : List Pair → Node
+written_node pairs = record {
   id = whole_under (codes "id") pairs;
   place = option_and_then numbers_in (first_list (codes "graphics") pairs);
 }
 
 -- the node that a pair is
 abbrev pub node_in : Pair → Option Node
-node_in pair = option_map node_of (list_under (codes "node") pair)
+node_in pair = option_map written_node (list_under (codes "node") pair)
 
 -- a point that a pair of a line is: its x and y, where its value is a list with both
 abbrev pub point_in : Pair → Option (Option Numbers)
@@ -35,15 +35,15 @@ abbrev pub line_in : List Pair → Option (List Pair)
 line_in pairs = option_and_then (first_list (codes "Line")) (first_list (codes "graphics") pairs)
 
 -- the pairs of an edge's line, none where there is no line
-abbrev pub line_of : List Pair → List Pair
-line_of pairs = unwrap_or (line_in pairs) []
+abbrev pub line_pairs : List Pair → List Pair
+line_pairs pairs = unwrap_or (line_in pairs) []
 
 -- an edge: its ends, and the points of its line in order
 abbrev pub edge_of : List Pair → Edge
 edge_of pairs = record {
   source = whole_under (codes "source") pairs;
   target = whole_under (codes "target") pairs;
-  points = filter_map point_in (line_of pairs);
+  points = filter_map point_in (line_pairs pairs);
 }
 
 -- the edge that a pair is

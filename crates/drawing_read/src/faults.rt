@@ -9,7 +9,7 @@ ghost use Rattle.drawing_read.specs.Ids.{number_of_id, ids_of, first_repeated};
 ghost use Rattle.drawing_read.specs.Spans.{points_in, pieces_in};
 ghost use Rattle.drawing_read.specs.Faults as faults;
 ghost use Rattle.drawing_read.specs.inner.Legible.{most_pairs};
-ghost use Rattle.drawing_read.specs.inner.Passes.{IsSmall};
+ghost use Rattle.drawing_read.specs.inner.Passes.{CanBeCounted};
 
 use crate::fault::DrawFault;
 use crate::ids::{Ids, has_unknown_end};
@@ -27,7 +27,7 @@ pub(crate) fn first_fault(
     vertices: usize,
     pieces: usize,
 ) -> Option<DrawFault>
-    requires small { IsSmall graph.now }
+    requires small { CanBeCounted graph.now }
     requires first { get int_eq ids.now.first ≡ number_of_id (ids_of graph.now.nodes) }
     requires repeated { ids.now.repeated ≡ first_repeated (ids_of graph.now.nodes) }
     requires vertices { vertices ≡ length (points_in graph.now) }
@@ -75,7 +75,7 @@ fn no_node(graph: &Graph) -> Option<DrawFault>
 
 /// A node without an id; where each has one, a node with a bad one.
 fn missing_or_bad_id(graph: &Graph) -> Option<DrawFault>
-    requires { IsSmall graph.now }
+    requires { CanBeCounted graph.now }
     ensures { result ≡ option_or
         (option_map (λ n. DrawFault.NoId n)
         (position (λ node. faults.is_absent node.id) graph.now.nodes))
@@ -87,7 +87,7 @@ fn missing_or_bad_id(graph: &Graph) -> Option<DrawFault>
 
 /// A node without an id.
 fn no_id(graph: &Graph) -> Option<DrawFault>
-    requires { IsSmall graph.now }
+    requires { CanBeCounted graph.now }
     ensures { result ≡ option_map (λ n. DrawFault.NoId n)
         (position (λ node. faults.is_absent node.id) graph.now.nodes) }
 {
@@ -96,7 +96,7 @@ fn no_id(graph: &Graph) -> Option<DrawFault>
 
 /// A node with a bad id.
 fn bad_id(graph: &Graph) -> Option<DrawFault>
-    requires { IsSmall graph.now }
+    requires { CanBeCounted graph.now }
     ensures { result ≡ option_map (λ n. DrawFault.BadId n)
         (position (λ node. faults.is_unfit node.id) graph.now.nodes) }
 {
@@ -112,7 +112,7 @@ fn repeated_id(ids: &Ids) -> Option<DrawFault>
 
 /// A node without a place.
 fn no_place(graph: &Graph) -> Option<DrawFault>
-    requires { IsSmall graph.now }
+    requires { CanBeCounted graph.now }
     ensures { result ≡ option_map (λ n. DrawFault.NoPlace n)
         (position (λ node. is_none node.place) graph.now.nodes) }
 {
@@ -122,7 +122,7 @@ fn no_place(graph: &Graph) -> Option<DrawFault>
 /// The refused number with the least offset.
 fn bad_number(graph: &Graph) -> Option<DrawFault>
     ensures { result ≡ option_map (λ number. DrawFault.BadNumber number.at number.cause)
-        (faults.first_refused (faults.numbers_of graph.now)) }
+        (faults.first_refused (faults.numbers_in_graph graph.now)) }
 {
     let number = first_refused(graph)?;
     Some(DrawFault::BadNumber {
@@ -133,7 +133,7 @@ fn bad_number(graph: &Graph) -> Option<DrawFault>
 
 /// An edge that lacks an end.
 fn no_end(graph: &Graph) -> Option<DrawFault>
-    requires { IsSmall graph.now }
+    requires { CanBeCounted graph.now }
     ensures { result ≡ option_map (λ e. DrawFault.NoEnd e)
         (position faults.lacks_end graph.now.edges) }
 {
@@ -142,7 +142,7 @@ fn no_end(graph: &Graph) -> Option<DrawFault>
 
 /// An edge with an end that is no node's id.
 fn unknown_end(ids: &Ids, graph: &Graph) -> Option<DrawFault>
-    requires { IsSmall graph.now }
+    requires { CanBeCounted graph.now }
     ensures { result ≡ option_map (λ e. DrawFault.UnknownEnd e)
         (position (faults.has_unknown_end (get int_eq ids.now.first)) graph.now.edges) }
 {

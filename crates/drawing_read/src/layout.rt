@@ -8,11 +8,11 @@ ghost use Rattle.drawing_read.specs.Ids.{number_of_id, ids_of};
 ghost use Rattle.drawing_read.specs.Routes as routes;
 ghost use Rattle.drawing_read.specs.Spans.{bends_of, points_in, spans_in, pieces_in};
 ghost use Rattle.drawing_read.specs.inner.Layouts.{AddsRoute};
-ghost use Rattle.drawing_read.specs.inner.Passes.{IsSmall};
+ghost use Rattle.drawing_read.specs.inner.Passes.{CanBeCounted};
 
 use crate::ids::end_number;
 use crate::numerals::{Number, Numbers};
-use crate::spans::{Span, begins_at, bends_between, push_pieces};
+use crate::spans::{EdgeSpan, begins_at, bends_between, push_pieces};
 use crate::written::{Edge, Graph, Node};
 use compact_types::{Items, NoMemory, Piece, Point};
 use indexmap::IndexMap;
@@ -22,7 +22,7 @@ use std::alloc::Global;
 #[derive(Debug, Drop)]
 pub struct Layout {
     pub points: Items<Point>,
-    pub spans: Items<Span>,
+    pub spans: Items<EdgeSpan>,
     pub pieces: Items<Piece>,
 }
 
@@ -32,7 +32,7 @@ pub(crate) fn layout_of(
     first: &IndexMap<i64, u32>,
     graph: &Graph,
 ) -> Result<Layout, NoMemory>
-    requires small { IsSmall graph.now }
+    requires small { CanBeCounted graph.now }
     requires first { get int_eq first.now ≡ number_of_id (ids_of graph.now.nodes) }
     ensures points { IfOk result (λ layout. layout.points ≡ points_in graph.now) }
     ensures spans { IfOk result (λ layout. layout.spans ≡ spans_in graph.now) }
@@ -68,7 +68,7 @@ fn add_edge(
     let target = end_number(first, edge.target);
     let from = place_of(nodes, source);
     let bends = bends_between(from, place_of(nodes, target), edge.points.as_slice());
-    let span = Span {
+    let span = EdgeSpan {
         source,
         target,
         at_source: u32::from(begins_at(from, edge.points.as_slice())),

@@ -11,11 +11,11 @@ mod fault;
 mod faults;
 mod graph;
 mod ids;
+mod laws;
 mod layout;
 mod limits;
 mod lookups;
 mod numerals;
-mod promises;
 mod read;
 mod reading;
 mod refused;
@@ -24,10 +24,10 @@ mod spots;
 mod written;
 
 pub use fault::DrawFault;
-pub use limits::MOST_PIECES_READ;
-pub use promises::{
+pub use laws::{
     alike_trees_have_one_reading, readable_trees_are_legible, readings_are_within_limits,
     spots_are_the_coordinates, trees_have_one_answer,
 };
+pub use limits::MOST_PIECES_READ;
 pub use read::read_drawing;
 pub use reading::{Reading, Spot};

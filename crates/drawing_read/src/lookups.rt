@@ -10,7 +10,7 @@ use gml_text::{Pair, Value};
 
 /// A list that was looked up, and the place of its pair among those around it.
 #[derive(Clone, Copy, Debug)]
-pub(crate) struct Found<'a> {
+pub(crate) struct FoundList<'a> {
     pub place: usize,
     pub pairs: &'a [Pair],
 }
@@ -31,7 +31,7 @@ pub(crate) fn first_under<'a>(key: &[u8], pairs: &'a [Pair]) -> Option<&'a Pair>
 }
 
 /// The list under the first pair with this key, and the place of that pair.
-pub(crate) fn first_list<'a>(key: &[u8], pairs: &'a [Pair]) -> Option<Found<'a>>
+pub(crate) fn first_list<'a>(key: &[u8], pairs: &'a [Pair]) -> Option<FoundList<'a>>
     ensures list { MatchOption result (lookups.first_list key.now pairs.now ≡ None)
         (λ found. lookups.IsListAt key.now pairs.now found.place found.pairs.now) }
     ensures within { IfSome result (λ found. found.place < length pairs.now) }
@@ -40,7 +40,7 @@ pub(crate) fn first_list<'a>(key: &[u8], pairs: &'a [Pair]) -> Option<Found<'a>>
 {
     let place = place_under(key, pairs)?;
     let list = list_of(&pairs[place])?;
-    Some(Found {
+    Some(FoundList {
         place,
         pairs: list.as_slice(),
     })

@@ -12,7 +12,7 @@ ghost use Rattle.drawing_read.specs.inner.Passes.{IsFirstGraph, IsOnlyGraph};
 
 use crate::fault::DrawFault;
 use crate::graph::graph_reading;
-use crate::lookups::{Found, list_under};
+use crate::lookups::{FoundList, list_under};
 use crate::reading::Reading;
 use compact_types::Refusal;
 use gml_text::{Pair, Tree};
@@ -37,7 +37,7 @@ pub fn read_drawing(alloc: Global, tree: &Tree) -> Result<Reading, Refusal<DrawF
 }
 
 /// The only graph, or that there is none or more than one.
-fn only_graph(pairs: &[Pair]) -> Result<Found<'_>, DrawFault>
+fn only_graph(pairs: &[Pair]) -> Result<FoundList<'_>, DrawFault>
     ensures ok { IfOk result (λ graph. IsOnlyGraph pairs.now graph.place graph.pairs.now) }
     ensures fault { IfErr result
         (λ fault. fault_of (lookups.lists_under (codes "graph") pairs.now) ≡ Some fault) }
@@ -52,13 +52,13 @@ fn only_graph(pairs: &[Pair]) -> Result<Found<'_>, DrawFault>
 }
 
 /// The first graph: a list under the key `graph`.
-fn first_graph(pairs: &[Pair]) -> Option<Found<'_>>
+fn first_graph(pairs: &[Pair]) -> Option<FoundList<'_>>
     ensures { MatchOption result (lookups.lists_under (codes "graph") pairs.now ≡ [])
         (λ graph. IsFirstGraph pairs.now graph.place graph.pairs.now) }
 {
     let place = graph_place(pairs)?;
     let list = list_under(b"graph", &pairs[place])?;
-    Some(Found {
+    Some(FoundList {
         place,
         pairs: list.as_slice(),
     })

@@ -17,7 +17,7 @@ pub struct RefusedNumber {
 
 /// Of the refused numbers of nodes and points the one with the least offset.
 pub(crate) fn first_refused(graph: &Graph) -> Option<RefusedNumber>
-    ensures { result ≡ faults.first_refused (faults.numbers_of graph.now) }
+    ensures { result ≡ faults.first_refused (faults.numbers_in_graph graph.now) }
 {
     with_edges(
         with_nodes(None, graph.nodes.as_slice()),

@@ -12,7 +12,7 @@ use compact_types::{Items, NoMemory, Piece, Point};
 
 /// An edge by the numbers of its vertices.
 #[derive(Clone, Copy, Debug)]
-pub struct Span {
+pub struct EdgeSpan {
     pub source: u32,
     pub target: u32,
     /// How many of its points stand for its source: none or one.
@@ -85,7 +85,7 @@ fn point_at(points: &[Option<Numbers>], p: usize) -> Option<Point>
 }
 
 /// Adds the pieces of an edge, from its source along its bends to its target.
-pub(crate) fn push_pieces(pieces: &mut Items<Piece>, span: Span) -> Result<(), NoMemory>
+pub(crate) fn push_pieces(pieces: &mut Items<Piece>, span: EdgeSpan) -> Result<(), NoMemory>
     requires { span.first + span.bends < 2 ^ 32 }
     ensures { OnOk result (pieces.new ≡ pieces.old ++ span_pieces span) }
 {
@@ -98,12 +98,12 @@ pub(crate) fn push_pieces(pieces: &mut Items<Piece>, span: Span) -> Result<(), N
 }
 
 /// The span of an edge; one of zeros where there is no edge with this number.
-pub(crate) fn span_at(spans: &[Span], e: u32) -> Span
+pub(crate) fn span_at(spans: &[EdgeSpan], e: u32) -> EdgeSpan
     requires { All (λ span. span.first + span.bends < 2 ^ 32) spans.now }
     ensures span { result ≡ slice_index_or spans.now e no_span }
     ensures fits { result.first + result.bends < 2 ^ 32 }
 {
-    let none = Span {
+    let none = EdgeSpan {
         source: 0,
         target: 0,
         at_source: 0,
@@ -114,7 +114,7 @@ pub(crate) fn span_at(spans: &[Span], e: u32) -> Span
 }
 
 /// The vertex of a point of an edge: its source, one of its bends or its target.
-pub(crate) fn point_vertex(span: Span, p: u32) -> u32
+pub(crate) fn point_vertex(span: EdgeSpan, p: u32) -> u32
     requires { span.first + span.bends < 2 ^ 32 }
     ensures { result ≡ point_vertex span p }
 {

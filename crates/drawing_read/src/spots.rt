@@ -10,7 +10,7 @@ ghost use Rattle.drawing_read.specs.inner.Legible.{most_pairs, IsLegiblePair, Ar
 
 use crate::lookups::{first_list, has_key, list_of, list_under, place_under};
 use crate::reading::Spot;
-use crate::spans::{Span, point_vertex, span_at};
+use crate::spans::{EdgeSpan, point_vertex, span_at};
 use compact_types::{Axis, Items, NoMemory};
 use gml_text::Pair;
 use std::alloc::Global;
@@ -19,7 +19,7 @@ use std::alloc::Global;
 pub(crate) fn graph_spots(
     alloc: Global,
     at: usize,
-    edges: &[Span],
+    edges: &[EdgeSpan],
     pairs: &[Pair],
 ) -> Result<Items<Spot>, NoMemory>
     requires place { at ≤ most_pairs }
@@ -66,7 +66,7 @@ impl Walk {
     }
 
     /// Passes the pairs of a graph.
-    fn graph(&mut self, edges: &[Span], pairs: &[Pair]) -> Result<(), NoMemory>
+    fn graph(&mut self, edges: &[EdgeSpan], pairs: &[Pair]) -> Result<(), NoMemory>
         requires spans { All (λ span. span.first + span.bends < 2 ^ 32) edges.now }
         requires pairs { AreLegible pairs.now }
         ensures { OnOk result (self.new.spots
@@ -118,7 +118,7 @@ impl Walk {
     }
 
     /// Passes a pair that is the edge with this span, or no edge.
-    fn edge(&mut self, span: Span, at: usize, pair: &Pair) -> Result<(), NoMemory>
+    fn edge(&mut self, span: EdgeSpan, at: usize, pair: &Pair) -> Result<(), NoMemory>
         requires place { at ≤ most_pairs }
         requires span { span.first + span.bends < 2 ^ 32 }
         requires pair { IsLegiblePair pair.now }
@@ -137,7 +137,7 @@ impl Walk {
     }
 
     /// Passes the graphics of an edge.
-    fn graphics_of_edge(&mut self, span: Span, pairs: &[Pair]) -> Result<(), NoMemory>
+    fn graphics_of_edge(&mut self, span: EdgeSpan, pairs: &[Pair]) -> Result<(), NoMemory>
         requires span { span.first + span.bends < 2 ^ 32 }
         requires pairs { AreLegible pairs.now }
         ensures path { OnOk result (self.new.path ≡ self.old.path) }
@@ -154,7 +154,7 @@ impl Walk {
     }
 
     /// Passes the line in the graphics of an edge.
-    fn line(&mut self, span: Span, pairs: &[Pair]) -> Result<(), NoMemory>
+    fn line(&mut self, span: EdgeSpan, pairs: &[Pair]) -> Result<(), NoMemory>
         requires span { span.first + span.bends < 2 ^ 32 }
         requires pairs { AreLegible pairs.now }
         ensures path { OnOk result (self.new.path ≡ self.old.path) }
@@ -171,7 +171,7 @@ impl Walk {
     }
 
     /// Passes the points of a line.
-    fn points(&mut self, span: Span, pairs: &[Pair]) -> Result<(), NoMemory>
+    fn points(&mut self, span: EdgeSpan, pairs: &[Pair]) -> Result<(), NoMemory>
         requires span { span.first + span.bends < 2 ^ 32 }
         requires pairs { AreLegible pairs.now }
         ensures path { OnOk result (self.new.path ≡ self.old.path) }

@@ -6,7 +6,7 @@ ghost use Rattle.std.specs.List.{filter_map};
 ghost use Rattle.drawing_read.specs.Lookups as lookups;
 ghost use Rattle.drawing_read.specs.Numerals as numerals;
 ghost use Rattle.drawing_read.specs.Written as written;
-ghost use Rattle.drawing_read.specs.inner.Passes.{IsSmall};
+ghost use Rattle.drawing_read.specs.inner.Passes.{CanBeCounted};
 ghost use Rattle.drawing_read.specs.inner.Legible.{IsLegiblePair, AreLegible};
 
 use crate::lookups::{first_list, has_key, list_of, list_under};
@@ -42,7 +42,7 @@ pub struct Graph {
 pub(crate) fn written_graph(alloc: Global, pairs: &[Pair]) -> Result<Graph, NoMemory>
     requires { AreLegible pairs.now }
     ensures graph { IfOk result (λ graph. graph ≡ written.graph_of pairs.now) }
-    ensures small { IfOk result IsSmall }
+    ensures small { IfOk result CanBeCounted }
 {
     let nodes = nodes_of(alloc, pairs)?;
     let edges = edges_of(alloc, pairs)?;
@@ -50,7 +50,7 @@ pub(crate) fn written_graph(alloc: Global, pairs: &[Pair]) -> Result<Graph, NoMe
 }
 
 /// The nodes of a graph, in order.
-#[tactic(auto, using(crate::proofs::Steps::kept_more, crate::proofs::Steps::left_more))]
+#[tactic(auto, using(crate::proofs::LoopSteps::kept_more, crate::proofs::LoopSteps::left_more))]
 fn nodes_of(alloc: Global, pairs: &[Pair]) -> Result<Items<Node>, NoMemory>
     requires { AreLegible pairs.now }
     ensures { IfOk result (λ nodes. nodes ≡ filter_map written.node_in pairs.now) }
@@ -86,7 +86,7 @@ fn place_in(pairs: &[Pair]) -> Option<Numbers>
 }
 
 /// The edges of a graph, in order.
-#[tactic(auto, using(crate::proofs::Steps::kept_more, crate::proofs::Steps::left_more))]
+#[tactic(auto, using(crate::proofs::LoopSteps::kept_more, crate::proofs::LoopSteps::left_more))]
 fn edges_of(alloc: Global, pairs: &[Pair]) -> Result<Items<Edge>, NoMemory>
     requires { AreLegible pairs.now }
     ensures { IfOk result (λ edges. edges ≡ filter_map written.edge_in pairs.now) }
@@ -123,7 +123,7 @@ fn edge_in(alloc: Global, pair: &Pair) -> Result<Option<Edge>, NoMemory>
 fn points_of(alloc: Global, pairs: &[Pair]) -> Result<Items<Option<Numbers>>, NoMemory>
     requires { AreLegible pairs.now }
     ensures { IfOk result
-        (λ points. points ≡ filter_map written.point_in (written.line_of pairs.now)) }
+        (λ points. points ≡ filter_map written.point_in (written.line_pairs pairs.now)) }
 {
     match line_in(pairs) {
         Some(line) => points_in(alloc, line),
@@ -141,7 +141,7 @@ fn line_in(pairs: &[Pair]) -> Option<&[Pair]>
 }
 
 /// The points of a line, in order.
-#[tactic(auto, using(crate::proofs::Steps::kept_more, crate::proofs::Steps::left_more))]
+#[tactic(auto, using(crate::proofs::LoopSteps::kept_more, crate::proofs::LoopSteps::left_more))]
 fn points_in(alloc: Global, line: &[Pair]) -> Result<Items<Option<Numbers>>, NoMemory>
     requires { AreLegible line.now }
     ensures { IfOk result (λ points. points ≡ filter_map written.point_in line.now) }

@@ -7,9 +7,9 @@ use Rattle.compact_types.specs.declared.places.Point.{Point}
 use Rattle.compact_types.specs.Lookups.{place}
 use Rattle.drawing_read.specs.declared.numerals.WholeNumber.{WholeNumber}
 use Rattle.drawing_read.specs.declared.written.Edge.{Edge}
-use Rattle.drawing_read.specs.declared.spans.Span.{Span}
+use Rattle.drawing_read.specs.declared.spans.EdgeSpan.{EdgeSpan}
 use Rattle.drawing_read.specs.Routes.{point_of, route_of}
-use Rattle.drawing_read.specs.Spans.{begins_at, ends_at, after_first_at, bends_of, points_at_source, span_of, spans_from, span_pieces, pieces_of}
+use Rattle.drawing_read.specs.Spans.{begins_at, ends_at, after_first_at, bends_of, points_at_source, edge_span, spans_from, span_pieces, pieces_of}
 use Rattle.drawing_read.specs.Ids.{node_with}
 use Rattle.drawing_read.specs.Spans.{no_span}
 use Rattle.gml_print.proofs.ListFacts.{range_append, length_range}
@@ -19,7 +19,7 @@ one_if : (b : Bool) → cond b 1 0 ≡ count b
 one_if true = refl
 one_if false = refl
 
-span_with : ℕ → ℕ → ℕ → ℕ → ℕ → Span
+span_with : ℕ → ℕ → ℕ → ℕ → ℕ → EdgeSpan
 span_with source target first at_source bends = record { source = source; target = target; at_source = at_source; first = first; bends = bends }
 
 module _ (where_is : ℕ → Point) (look : ℤ → Option ℕ) (nodes new_nodes : List Point) (bound : ℕ)
@@ -32,7 +32,7 @@ module _ (where_is : ℕ → Point) (look : ℤ → Option ℕ) (nodes new_nodes
   ends edge = ends_at (place nodes (route_of look edge).target) (after_first_at (place nodes (route_of look edge).source) (route_of look edge).points)
 
   moved_of : ℕ → Edge → Edge
-  moved_of first edge = moved_edge where_is (span_of nodes first (route_of look edge)) edge
+  moved_of first edge = moved_edge where_is (edge_span nodes first (route_of look edge)) edge
 
   new_points : (first : ℕ) (edge : Edge) → HavePoints edge.points →
       (route_of look (moved_of first edge)).points ≡
@@ -46,10 +46,10 @@ module _ (where_is : ℕ → Point) (look : ℤ → Option ℕ) (nodes new_nodes
       after_length (place nodes route.source) route.points in
       let back : length (bends_of nodes route) + count (ends edge) ≡ length (after_first_at (place nodes route.source) route.points) =
       before_length (place nodes route.target) (after_first_at (place nodes route.source) route.points) in
-      moved_route_points where_is (span_of nodes first route) 0 edge.points have
-      ∙ ap (map where_is) (all_vertices (span_of nodes first route) (starts edge) (ends edge) edge.points (one_if (starts edge)) (omega arith))
+      moved_route_points where_is (edge_span nodes first route) 0 edge.points have
+      ∙ ap (map where_is) (all_vertices (edge_span nodes first route) (starts edge) (ends edge) edge.points (one_if (starts edge)) (omega arith))
 
-  module _ (first : ℕ) (edge : Edge) (have : HavePoints edge.points) (apart : Apart where_is (span_pieces (span_of nodes first (route_of look edge)))) where
+  module _ (first : ℕ) (edge : Edge) (have : HavePoints edge.points) (apart : Apart where_is (span_pieces (edge_span nodes first (route_of look edge)))) where
     same_start : begins_at (place new_nodes (route_of look edge).source) (route_of look (moved_of first edge)).points ≡ starts edge
     unfolding moved_of
     same_start = new_start where_is new_nodes (route_of look (moved_of first edge)) (at (route_of look edge).source (known edge.source)) (at (route_of look edge).target (known edge.target))
@@ -64,7 +64,7 @@ module _ (where_is : ℕ → Point) (look : ℤ → Option ℕ) (nodes new_nodes
     same_count = ap length same_bends ∙ length-map (range_with_len first (length (bends_of nodes (route_of look edge)))) where_is
         ∙ length_range first (length (bends_of nodes (route_of look edge)))
 
-    same_span : span_of new_nodes first (route_of look (moved_of first edge)) ≡ span_of nodes first (route_of look edge)
+    same_span : edge_span new_nodes first (route_of look (moved_of first edge)) ≡ edge_span nodes first (route_of look edge)
     unfolding span_with moved_of starts
     same_span =
         ap (λ (b : Bool). span_with (route_of look edge).source (route_of look edge).target first (cond b 1 0) (length (bends_of new_nodes (route_of look (moved_of first edge))))) same_start
@@ -77,7 +77,7 @@ module _ (where_is : ℕ → Point) (look : ℤ → Option ℕ) (nodes new_nodes
       map where_is (range_with_len first (length (flat_map (bends_of nodes) (map (route_of look) olds)))))
 
   together : (first : ℕ) (edge : Edge) (olds news : List Edge) → HavePoints edge.points →
-      Apart where_is (span_pieces (span_of nodes first (route_of look edge))) →
+      Apart where_is (span_pieces (edge_span nodes first (route_of look edge))) →
       KeepTheirVertices olds news (first + length (bends_of nodes (route_of look edge))) → KeepTheirVertices (edge ∷ olds) (moved_of first edge ∷ news) first
   together first edge olds news have apart rest =
       let long = length (bends_of nodes (route_of look edge)) in
@@ -88,14 +88,14 @@ module _ (where_is : ℕ → Point) (look : ℤ → Option ℕ) (nodes new_nodes
         rw (same_bends first edge have apart, rest.1, all, range_append first long more, map-append where_is (range_with_len first long) (range_with_len (first + long) more)) refl,
       )
 
-  pub edges_moved : (span_at : ℕ → Span) (first e : ℕ) (edges : List Edge) → EdgesHavePoints edges →
+  pub edges_moved : (span_at : ℕ → EdgeSpan) (first e : ℕ) (edges : List Edge) → EdgesHavePoints edges →
       ((k : ℕ) → span_at (e + k) ≡ slice_index_or (spans_from nodes first (map (route_of look) edges)) k no_span) →
       Apart where_is (pieces_of (spans_from nodes first (map (route_of look) edges))) →
       KeepTheirVertices edges (moved_edges where_is span_at e edges) first
   unfolding moved_of
   edges_moved span_at first e [] have spans apart = (refl, refl)
   edges_moved span_at first e (edge ∷ edges) have spans apart =
-      let span = span_of nodes first (route_of look edge) in
+      let span = edge_span nodes first (route_of look edge) in
       let after = first + length (bends_of nodes (route_of look edge)) in
       let here : span_at e ≡ span = ap span_at (sym (add-zero e)) ∙ spans 0 in
       let parts = apart_parts where_is (span_pieces span) (pieces_of (spans_from nodes after (map (route_of look) edges))) apart in

@@ -11,7 +11,7 @@ use Rattle.drawing_read.specs.declared.numerals.WholeNumber.{WholeNumber}
 use Rattle.drawing_read.specs.declared.written.Node.{Node}
 use Rattle.drawing_read.specs.declared.written.Edge.{Edge}
 use Rattle.drawing_read.specs.declared.fault.DrawFault.TheVariants.{BadPoint}
-use Rattle.drawing_read.specs.declared.spans.Span.{Span}
+use Rattle.drawing_read.specs.declared.spans.EdgeSpan.{EdgeSpan}
 use Rattle.drawing_read.specs.Ids.{ids_of, node_with}
 use Rattle.drawing_read.specs.Spans.{point_vertex}
 use Rattle.drawing_read.specs.Faults.{is_no_numeral, lacks_end, has_unknown_end, bad_point_from, both_numbers, refused_in}
@@ -79,13 +79,13 @@ module _ (where_is : ℕ → Point) where
       none_more (both_numbers (option_map (moved_numbers where_is n) node.place)) (flat_map (λ node. both_numbers node.place) (moved_nodes where_is (n + 1) nodes))
       (none_refused n node.place) (nodes_refuse_none (n + 1) nodes)
 
-  points_refuse_none : (span : Span) (p : ℕ) (points : List (Option Numbers)) → filter_map refused_in (flat_map both_numbers (moved_points where_is span p points)) ≡ []
+  points_refuse_none : (span : EdgeSpan) (p : ℕ) (points : List (Option Numbers)) → filter_map refused_in (flat_map both_numbers (moved_points where_is span p points)) ≡ []
   points_refuse_none span p [] = refl
   points_refuse_none span p (point ∷ points) =
       none_more (both_numbers (option_map (moved_numbers where_is (point_vertex span p)) point)) (flat_map both_numbers (moved_points where_is span (p + 1) points))
       (none_refused (point_vertex span p) point) (points_refuse_none span (p + 1) points)
 
-  module _ (span_at : ℕ → Span) where
+  module _ (span_at : ℕ → EdgeSpan) where
     edges_refuse_none : (e : ℕ) (edges : List Edge) →
         filter_map refused_in (flat_map (λ edge. flat_map both_numbers edge.points) (moved_edges where_is span_at e edges)) ≡ []
     edges_refuse_none e [] = refl
@@ -115,7 +115,7 @@ module _ (where_is : ℕ → Point) where
     ends_position p e edges =
         sym (position-map p ends_of (moved_edges where_is span_at e edges)) ∙ ap (position p) (written_ends e edges) ∙ position-map p ends_of edges
 
-    points_there : (span : Span) (p : ℕ) (points : List (Option Numbers)) → HavePoints points → position is_none (moved_points where_is span p points) ≡ None
+    points_there : (span : EdgeSpan) (p : ℕ) (points : List (Option Numbers)) → HavePoints points → position is_none (moved_points where_is span p points) ≡ None
     points_there span p [] have = refl
     points_there span p (point ∷ points) have =
         position_none_cons (λ (point : Option Numbers). is_none point) (option_map (moved_numbers where_is (point_vertex span p)) point) (moved_points where_is span (p + 1) points)

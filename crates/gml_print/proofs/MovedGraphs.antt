@@ -14,7 +14,7 @@ use Rattle.compact_types.specs.Lookups.{place}
 use Rattle.drawing_read.specs.declared.numerals.Numbers.{Numbers}
 use Rattle.drawing_read.specs.declared.written.Node.{Node}
 use Rattle.drawing_read.specs.declared.written.Edge.{Edge}
-use Rattle.drawing_read.specs.declared.spans.Span.{Span}
+use Rattle.drawing_read.specs.declared.spans.EdgeSpan.{EdgeSpan}
 use Rattle.drawing_read.specs.Routes.{Route, point_of, node_points}
 use Rattle.compact_types.proofs.Laws.{range_push, same_point as same_coordinates}
 use Rattle.drawing_read.specs.Spans.{same_point, begins_at, ends_at, after_first_at, before_last_at, bends_of, chain}
@@ -44,14 +44,14 @@ abbrev pub only_if : Bool → ℕ → List ℕ
 only_if true v = v ∷ []
 only_if false v = []
 
-bend_vertex : (span : Span) (p k : ℕ) → p ≡ span.at_source + k → k < span.bends → point_vertex span p ≡ span.first + k
+bend_vertex : (span : EdgeSpan) (p k : ℕ) → p ≡ span.at_source + k → k < span.bends → point_vertex span p ≡ span.first + k
 bend_vertex span p k at within =
     let before : nat_lt p span.at_source ≡ false = grind (arith, nat_tests) in
     let distance : p - span.at_source ≡ k = omega arith in
     let bend : nat_lt k span.bends ≡ true = grind (arith, nat_tests) in
     rw (before, distance, bend) refl
 
-target_vertex : (span : Span) (p k : ℕ) → p ≡ span.at_source + k → span.bends ≤ k → point_vertex span p ≡ span.target
+target_vertex : (span : EdgeSpan) (p k : ℕ) → p ≡ span.at_source + k → span.bends ≤ k → point_vertex span p ≡ span.target
 target_vertex span p k at beyond =
     let before : nat_lt p span.at_source ≡ false = grind (arith, nat_tests) in
     let distance : p - span.at_source ≡ k = omega arith in
@@ -59,12 +59,12 @@ target_vertex span p k at beyond =
     rw (before, distance, bend) refl
 
 -- the vertices of the points of an edge from point p on
-abbrev pub vertices_from : {A : Type 0} → Span → ℕ → List A → List ℕ
+abbrev pub vertices_from : {A : Type 0} → EdgeSpan → ℕ → List A → List ℕ
 vertices_from span p [] = []
 vertices_from span p (q ∷ points) = point_vertex span p ∷ vertices_from span (p + 1) points
 
 -- behind a point that stands for the source come the bends, and then the target where a point stands for it
-rest_vertices : {A : Type 0} (span : Span) (p k n : ℕ) (t : Bool) (points : List A) →
+rest_vertices : {A : Type 0} (span : EdgeSpan) (p k n : ℕ) (t : Bool) (points : List A) →
     p ≡ span.at_source + k → span.bends ≡ k + n → length points ≡ n + count t →
     vertices_from span p points ≡ range_with_len (span.first + k) n ++ only_if t span.target
 rest_vertices span p k zero false [] at bends long = refl
@@ -80,7 +80,7 @@ rest_vertices span p k (suc n) t (q ∷ points) at bends long =
     rw (here, rest, next) refl
 
 -- the vertices of all points of an edge
-pub all_vertices : {A : Type 0} (span : Span) (s t : Bool) (points : List A) →
+pub all_vertices : {A : Type 0} (span : EdgeSpan) (s t : Bool) (points : List A) →
     span.at_source ≡ count s → length points ≡ count s + (span.bends + count t) →
     vertices_from span 0 points ≡ only_if s span.source ++ (range_with_len span.first span.bends ++ only_if t span.target)
 all_vertices span false t points at long =
@@ -202,15 +202,15 @@ module _ (where_is : ℕ → Point) where
   moved_nodes n [] = []
   moved_nodes n (node ∷ nodes) = moved_node n node ∷ moved_nodes (n + 1) nodes
 
-  abbrev pub moved_points : Span → ℕ → List (Option Numbers) → List (Option Numbers)
+  abbrev pub moved_points : EdgeSpan → ℕ → List (Option Numbers) → List (Option Numbers)
   moved_points span p [] = []
   moved_points span p (point ∷ points) = option_map (moved_numbers (point_vertex span p)) point ∷ moved_points span (p + 1) points
 
-  abbrev pub moved_edge : Span → Edge → Edge
+  abbrev pub moved_edge : EdgeSpan → Edge → Edge
   moved_edge span edge = record { source = edge.source; target = edge.target; points = moved_points span 0 edge.points }
 
   -- the edges, numbered from e on, with their points at their vertices' new places
-  abbrev pub moved_edges : (ℕ → Span) → ℕ → List Edge → List Edge
+  abbrev pub moved_edges : (ℕ → EdgeSpan) → ℕ → List Edge → List Edge
   moved_edges span_at e [] = []
   moved_edges span_at e (edge ∷ edges) = moved_edge (span_at e) edge ∷ moved_edges span_at (e + 1) edges
 
@@ -222,7 +222,7 @@ module _ (where_is : ℕ → Point) where
   moved_node_points n [] have = refl
   moved_node_points n (node ∷ nodes) have = rw (moved_place n node.place have.0, moved_node_points (n + 1) nodes have.1) refl
 
-  pub moved_route_points : (span : Span) (p : ℕ) (points : List (Option Numbers)) → HavePoints points →
+  pub moved_route_points : (span : EdgeSpan) (p : ℕ) (points : List (Option Numbers)) → HavePoints points →
       map point_of (moved_points span p points) ≡ map where_is (vertices_from span p points)
   moved_route_points span p [] have = refl
   moved_route_points span p (point ∷ points) have =

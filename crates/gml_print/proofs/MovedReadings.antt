@@ -8,14 +8,14 @@ use Rattle.compact_types.specs.declared.places.Point.{Point}
 use Rattle.compact_types.specs.Lookups.{origin, place}
 use Rattle.drawing_read.specs.declared.numerals.WholeNumber.{WholeNumber}
 use Rattle.drawing_read.specs.declared.numerals.Number.{Number}
-use Rattle.drawing_read.specs.declared.spans.Span.{Span}
+use Rattle.drawing_read.specs.declared.spans.EdgeSpan.{EdgeSpan}
 use Rattle.drawing_read.specs.declared.written.Graph.{Graph}
 use Rattle.drawing_read.specs.Ids.{ids_of, number_of_id, node_with}
 use Rattle.drawing_read.specs.Routes.{node_points, routes_by}
 use Rattle.drawing_read.specs.Spans.{bends_of, spans_from, points_by, spans_by, pieces_of, points_in, spans_in, pieces_in}
 use Rattle.drawing_read.specs.Spans.{no_span}
 use Rattle.drawing_read.specs.Ids.{first_repeated}
-use Rattle.drawing_read.specs.Faults.{is_absent, is_unfit, graph_fault, numbers_of, first_refused, refused_in, has_unknown_end}
+use Rattle.drawing_read.specs.Faults.{is_absent, is_unfit, graph_fault, numbers_in_graph, first_refused, refused_in, has_unknown_end}
 use Rattle.drawing_read.proofs.Laws.{HasNoFault, end_below, has_no_fault, is_faultless}
 use Rattle.gml_print.proofs.ListFacts.{range_append, length_range}
 use Rattle.gml_print.proofs.MovedGraphs.{HavePlaces, EdgesHavePoints, Apart, moved_nodes, moved_edges, moved_node_points}
@@ -111,14 +111,14 @@ module _ (where_is : ℕ → Point) (graph : Graph) (faultless : graph_fault gra
   unfolding look
   faultless_moved =
       let moved = moved_graph where_is graph in
-      let span_at : ℕ → Span = λ e. slice_index_or (spans_in graph) e no_span in
+      let span_at : ℕ → EdgeSpan = λ e. slice_index_or (spans_in graph) e no_span in
       is_faultless moved (record {
         some_node = omega (arith, length_moved where_is 0 graph.nodes, no_fault.some_node);
         ids = ids_position where_is is_absent 0 graph.nodes ∙ no_fault.ids;
         fit_ids = ids_position where_is is_unfit 0 graph.nodes ∙ no_fault.fit_ids;
         different_ids = ap first_repeated (ids_moved where_is 0 graph.nodes) ∙ no_fault.different_ids;
         places = places_moved where_is 0 graph.nodes (have_places graph.nodes no_fault.places);
-        numbers = no_numbers (numbers_of moved) (numbers_fit where_is span_at 0 0 graph.nodes graph.edges);
+        numbers = no_numbers (numbers_in_graph moved) (numbers_fit where_is span_at 0 0 graph.nodes graph.edges);
         ends = lacking_moved where_is span_at graph.edges ∙ no_fault.ends;
         known_ends = ap (λ look. position (has_unknown_end look) moved.edges) same_look ∙ (unknown_moved where_is span_at look graph.edges ∙ no_fault.known_ends);
         points = no_bad_point where_is span_at 0 0 graph.edges (edges_have_points 0 graph.edges no_fault.points);

@@ -7,7 +7,7 @@ use Rattle.gml_text.specs.declared.tree.Value.{Value}
 use Rattle.gml_text.specs.declared.tree.Value.TheVariants.{Whole, Real, Text, Inner}
 use Rattle.gml_print.specs.Placing.{change_at, replaced, put_value}
 use Rattle.gml_print.specs.Paths.{value_below, value_at, Part}
-use Rattle.gml_print.proofs.Changes.{changed_at, change_at_is, changed_twice}
+use Rattle.gml_print.proofs.ChangedLists.{changed_at, change_at_is, changed_twice}
 
 pub part_back : (p q : List ℕ) → Part p q → Part q p
 part_back [] q part = absurd part

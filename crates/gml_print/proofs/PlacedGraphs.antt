@@ -9,23 +9,23 @@ use Rattle.compact_types.specs.declared.places.Places.{Places}
 use Rattle.compact_types.specs.Lookups.{place, along}
 use Rattle.gml_text.specs.declared.tree.Pair.{Pair}
 use Rattle.gml_text.specs.declared.tree.Value.{Value}
-use Rattle.drawing_read.specs.declared.spans.Span.{Span}
+use Rattle.drawing_read.specs.declared.spans.EdgeSpan.{EdgeSpan}
 use Rattle.drawing_read.specs.Lookups.{has_key, list_in, list_under, lists_under}
 use Rattle.gml_text.specs.Thousandths.{thousandths_of}
-use Rattle.drawing_read.specs.Written.{node_of, node_in, edge_of, edge_in}
+use Rattle.drawing_read.specs.Written.{written_node, node_in, edge_of, edge_in}
 use Rattle.drawing_read.specs.Spots.{node_spots, edge_spots, pair_spots, counted, graph_spots}
 use Rattle.drawing_read.specs.Spans.{no_span}
 use Rattle.gml_print.specs.Numbers.{number_text}
 use Rattle.gml_print.specs.Placing.{with_changed_value}
 use Rattle.gml_print.proofs.ListFacts.{position_here, position_later}
-use Rattle.gml_print.proofs.Changes.{changed_at, apart_words}
-use Rattle.gml_print.proofs.Puts.{puts, replaced_by, replaced_by_list}
+use Rattle.gml_print.proofs.ChangedLists.{changed_at, apart_words}
+use Rattle.gml_print.proofs.PutValues.{puts, replaced_by, replaced_by_list}
 use Rattle.gml_print.proofs.MovedGraphs.{HavePlaces, EdgesHavePoints, moved_nodes, moved_edges}
 use Rattle.gml_print.proofs.SpotPaths.{pair_relative, pair_leads}
 use Rattle.gml_print.proofs.PlacedNodes.{placed_node, node_placed, same_node_spots}
 use Rattle.gml_print.proofs.PlacedEdges.{placed_edge, edge_placed, same_edge_spots, then_put}
 
-module _ (places : Places) (pitch : ℕ) (spans : List Span) where
+module _ (places : Places) (pitch : ℕ) (spans : List EdgeSpan) where
   abbrev pub placed_pair : ℕ → ℕ → Pair → Pair
   placed_pair n e pair = with_changed_value (replaced_by places pitch (pair_spots [] spans n e pair)) pair
 
@@ -49,7 +49,7 @@ module _ (places : Places) (pitch : ℕ) (spans : List Span) where
   graph_put pairs = graph_put_from 0 0 0 pairs [] refl
 
   module _ (n e : ℕ) where
-    span : Span
+    span : EdgeSpan
     span = slice_index_or spans e no_span
 
     node_case : (b c : Bool) (o : Option (List Pair)) → (b ≡ true → c ≡ false) →
@@ -87,7 +87,7 @@ module _ (places : Places) (pitch : ℕ) (spans : List Span) where
   same_node_pair path n None = refl
   same_node_pair path n (Some list) = same_node_spots places pitch n list path
 
-  same_edge_pair : (path : List ℕ) (edge : Span) (o : Option (List Pair)) →
+  same_edge_pair : (path : List ℕ) (edge : EdgeSpan) (o : Option (List Pair)) →
       option_map_or (λ list. edge_spots path edge list) (option_map (placed_edge places pitch edge) o) [] ≡ option_map_or (λ list. edge_spots path edge list) o []
   same_edge_pair path edge None = refl
   same_edge_pair path edge (Some list) = same_edge_spots places pitch edge list path
@@ -127,23 +127,23 @@ module _ (places : Places) (pitch : ℕ) (spans : List Span) where
 
 module _ (places : Places) (pitch : ℕ) (where_is : ℕ → Point)
     (tells : (axis : Axis) (v : ℕ) → thousandths_of (number_text (pos pitch *ℤ along axis (place places.xy v))) ≡ Ok (along axis (where_is v)))
-    (spans : List Span) where
+    (spans : List EdgeSpan) where
   -- the nodes and the edges with their numerals put are the moved ones
   pub nodes_placed : (n e : ℕ) (pairs : List Pair) → HavePlaces (filter_map node_in pairs) →
       filter_map node_in (placed_graph places pitch spans n e pairs) ≡ moved_nodes where_is n (filter_map node_in pairs)
   nodes_placed n e [] have = refl
   nodes_placed n e (pair ∷ pairs) have =
       let f = counted e (list_under (codes "edge") pair) in
-      ap (λ (o : Option (List Pair)). cons_option (option_map node_of o) (filter_map node_in (placed_graph places pitch spans (counted n (list_under (codes "node") pair)) f pairs)))
+      ap (λ (o : Option (List Pair)). cons_option (option_map written_node o) (filter_map node_in (placed_graph places pitch spans (counted n (list_under (codes "node") pair)) f pairs)))
       (node_list places pitch spans n e pair)
       ∙ by_list (list_under (codes "node") pair) have (λ m have. nodes_placed m f pairs have)
     where
-      by_list : (o : Option (List Pair)) → HavePlaces (cons_option (option_map node_of o) (filter_map node_in pairs)) →
+      by_list : (o : Option (List Pair)) → HavePlaces (cons_option (option_map written_node o) (filter_map node_in pairs)) →
           ((m : ℕ) → HavePlaces (filter_map node_in pairs) →
           filter_map node_in (placed_graph places pitch spans m (counted e (list_under (codes "edge") pair)) pairs) ≡ moved_nodes where_is m (filter_map node_in pairs)) →
-          cons_option (option_map node_of (option_map (placed_node places pitch n) o))
+          cons_option (option_map written_node (option_map (placed_node places pitch n) o))
           (filter_map node_in (placed_graph places pitch spans (counted n o) (counted e (list_under (codes "edge") pair)) pairs)) ≡
-          moved_nodes where_is n (cons_option (option_map node_of o) (filter_map node_in pairs))
+          moved_nodes where_is n (cons_option (option_map written_node o) (filter_map node_in pairs))
       by_list None have rest = rest n have
       by_list (Some list) have rest = rw (node_placed places pitch where_is tells n list (have.0), rest (n + 1) (have.1)) refl
 

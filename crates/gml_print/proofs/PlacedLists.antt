@@ -11,9 +11,9 @@ use Rattle.drawing_read.specs.Lookups.{has_key, list_in, first_under, first_list
 use Rattle.drawing_read.specs.Spots.{spot, coordinate_spots, inside, in_order}
 use Rattle.gml_print.specs.Placing.{with_changed_value, change_at}
 use Rattle.gml_print.specs.Places.{numeral_for}
-use Rattle.gml_print.proofs.Changes.{change_at_is, change_first, changed_is_first, keys_of, same_keys, same_places, first_changed, first_of_other, AreApart, apart_words}
+use Rattle.gml_print.proofs.ChangedLists.{change_at_is, change_first, changed_is_first, keys_of, same_keys, same_places, first_changed, first_of_other, AreApart, apart_words}
 use Rattle.gml_print.proofs.ListFacts.{find_position}
-use Rattle.gml_print.proofs.Puts.{LeadIn, puts, replaced_by, puts_behind, replaced_by_list}
+use Rattle.gml_print.proofs.PutValues.{LeadIn, puts, replaced_by, puts_behind, replaced_by_list}
 use Rattle.gml_print.proofs.SpotPaths.{IsRelative}
 
 -- where the pair that counts stands, if there is one

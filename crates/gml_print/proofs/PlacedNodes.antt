@@ -20,13 +20,13 @@ use Rattle.drawing_read.specs.declared.numerals.WholeNumber.TheVariants.{Absent}
 use Rattle.drawing_read.specs.Lookups.{list_in, first_under, first_list, place_under}
 use Rattle.gml_text.specs.Thousandths.{thousandths_of}
 use Rattle.drawing_read.specs.Numerals.{numeral_in, number_of, number_under, numbers_in, whole_in, whole_under}
-use Rattle.drawing_read.specs.Written.{node_of}
+use Rattle.drawing_read.specs.Written.{written_node}
 use Rattle.drawing_read.specs.Spots.{spot, coordinate_spots, inside, node_spots}
 use Rattle.gml_print.specs.Numbers.{number_text}
 use Rattle.gml_print.specs.Placing.{with_changed_value}
 use Rattle.gml_print.specs.Places.{numeral_for}
-use Rattle.gml_print.proofs.Changes.{same_places, apart_words}
-use Rattle.gml_print.proofs.Puts.{puts, replaced_by, replaced_by_list}
+use Rattle.gml_print.proofs.ChangedLists.{same_places, apart_words}
+use Rattle.gml_print.proofs.PutValues.{puts, replaced_by, replaced_by_list}
 use Rattle.gml_print.proofs.MovedGraphs.{moved_numbers, moved_node}
 use Rattle.gml_print.proofs.SpotPaths.{coordinates_relative, coordinates_lead, value_spots, value_lead}
 use Rattle.gml_print.proofs.PlacedLists.{IsFirst, in_place, numerals_put, same_coordinates, IsPutInside, put_inside}
@@ -162,11 +162,11 @@ module _ (places : Places) (pitch : ℕ) (where_is : ℕ → Point)
   made_node id place = record { id = id; place = place }
 
   -- a node with its numerals put is the moved node
-  pub node_placed : (n : ℕ) (pairs : List Pair) → is_none (node_of pairs).place ≡ false → node_of (placed_node places pitch n pairs) ≡ moved_node where_is n (node_of pairs)
+  pub node_placed : (n : ℕ) (pairs : List Pair) → is_none (written_node pairs).place ≡ false → written_node (placed_node places pitch n pairs) ≡ moved_node where_is n (written_node pairs)
   unfolding made_node
   node_placed n pairs have =
       let put = node_put places pitch n pairs in
-      ap (λ (o : Option Pair). made_node (option_map_or (λ (pair : Pair). whole_in pair.value) o Absent) (node_of (placed_node places pitch n pairs)).place)
+      ap (λ (o : Option Pair). made_node (option_map_or (λ (pair : Pair). whole_in pair.value) o Absent) (written_node (placed_node places pitch n pairs)).place)
       (put.others (codes "id") (apart_words (codes "graphics") (codes "id") refl))
       ∙ ap (made_node (whole_under (codes "id") pairs))
       (ap (option_and_then numbers_in) put.list ∙ place_placed n (first_list (codes "graphics") pairs) have)

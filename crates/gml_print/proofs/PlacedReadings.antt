@@ -21,7 +21,7 @@ use Rattle.gml_text.specs.declared.tree.Tree.{Tree, out-Tree}
 use Rattle.gml_text.specs.declared.tree.Pair.{Pair}
 use Rattle.gml_text.specs.declared.tree.Value.{Value}
 use Rattle.drawing_read.specs.declared.reading.Reading.{Reading}
-use Rattle.drawing_read.specs.declared.spans.Span.{Span}
+use Rattle.drawing_read.specs.declared.spans.EdgeSpan.{EdgeSpan}
 use Rattle.drawing_read.specs.declared.written.Node.{Node}
 use Rattle.drawing_read.specs.declared.written.Edge.{Edge}
 use Rattle.drawing_read.specs.declared.written.Graph.{Graph}
@@ -36,8 +36,8 @@ use Rattle.compact_types.specs.declared.limits.TheConstants.{MOST_PITCH}
 use Rattle.gml_print.specs.Places.{placed, CanPut, in_thousandths, moved_reading}
 use Rattle.gml_print.proofs.ListFacts.{length_range}
 use Rattle.gml_print.proofs.PlaceNumbers.{AreWritable, are_writable, numerals_tell, same_multiple, place_writable}
-use Rattle.gml_print.proofs.Changes.{changed_at}
-use Rattle.gml_print.proofs.Puts.{puts, replaced_by, replaced_by_list, placed_pairs, puts_behind}
+use Rattle.gml_print.proofs.ChangedLists.{changed_at}
+use Rattle.gml_print.proofs.PutValues.{puts, replaced_by, replaced_by_list, placed_pairs, puts_behind}
 use Rattle.gml_print.proofs.SpotPaths.{graph_relative, graph_leads}
 use Rattle.gml_print.proofs.MovedGraphs.{Apart}
 use Rattle.gml_print.proofs.MovedReadings.{moved_graph, spans_moved, points_moved, faultless_moved, written_parts}
@@ -129,7 +129,7 @@ module _ (reading : Reading) (places : Places) (pitch at : ℕ) (pairs : List Pa
         places = all_new_places pitch places count (one_for_each ∙ read.vertices) ∙ sym new_points;
         spots = read.spots
             ∙ sym (same_graph_spots places pitch (spans_in (graph_of pairs)) (at ∷ []) 0 0 0 pairs)
-            ∙ ap (λ (spans : List Span). graph_spots (at ∷ []) spans 0 0 0 new_pairs) (sym new_spans);
+            ∙ ap (λ (spans : List EdgeSpan). graph_spots (at ∷ []) spans 0 0 0 new_pairs) (sym new_spans);
       }
 
 -- the tree with new places has the reading with these places

@@ -22,9 +22,9 @@ use Rattle.gml_text.proofs.Laws.{tree_words, pair_words, value_words, tree_depth
 use Rattle.gml_text.specs.declared.marks.TheConstants.{SPACE, LINE_FEED, OPENING_BRACKET, CLOSING_BRACKET}
 use Rattle.gml_print.specs.Printing.{indentation, bracketed, line, printed, printed_at}
 use Rattle.gml_print.specs.inner.Pieces.{value_text, pair_text}
-use Rattle.gml_print.specs.Laws.{ReadsBack}
-use Rattle.gml_print.proofs.Alike.{lines_of, printed-alike}
-use Rattle.gml_print.proofs.Printed.{printed_at_lines}
+use Rattle.gml_print.specs.TextReadings.{ReadsBack}
+use Rattle.gml_print.proofs.AlikeTexts.{lines_of, printed-alike}
+use Rattle.gml_print.proofs.TextEquations.{printed_at_lines}
 
 -- ---- white space
 

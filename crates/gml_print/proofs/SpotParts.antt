@@ -9,7 +9,7 @@ use Rattle.gml_text.specs.declared.tree.Tree.{Tree, out-Tree}
 use Rattle.gml_text.specs.declared.tree.Pair.{Pair}
 use Rattle.gml_text.specs.declared.tree.Value.{Value}
 use Rattle.drawing_read.specs.declared.reading.Spot.{Spot}
-use Rattle.drawing_read.specs.declared.spans.Span.{Span}
+use Rattle.drawing_read.specs.declared.spans.EdgeSpan.{EdgeSpan}
 use Rattle.drawing_read.specs.declared.reading.Reading.{Reading}
 use Rattle.drawing_read.specs.Spans.{spans_in}
 use Rattle.drawing_read.specs.Written.{graph_of}
@@ -21,8 +21,8 @@ use Rattle.drawing_read.specs.Spans.{point_vertex, no_span}
 use Rattle.gml_print.specs.Paths.{value_below, value_in, Part}
 use Rattle.gml_print.proofs.ListFacts.{found_at, position_here, position_later}
 use Rattle.gml_print.proofs.PlacedReadings.{only_graph}
-use Rattle.gml_print.proofs.Changes.{apart_words}
-use Rattle.gml_print.proofs.Puts.{behind}
+use Rattle.gml_print.proofs.ChangedLists.{apart_words}
+use Rattle.gml_print.proofs.PutValues.{behind}
 use Rattle.gml_print.proofs.SpotPaths.{IsRelative, coordinates_relative, value_spots, value_relative, points_relative, line_spots, line_relative, pair_relative, graph_relative}
 use Rattle.gml_print.proofs.SpotValues.{Each, each_weaker, PartsFrom, AllPart}
 
@@ -193,7 +193,7 @@ one_further : (a : ℕ) (front : List Pair) (pair : Pair) (pairs : List Pair) (s
     FitFrom a ((front ++ pair ∷ []) ++ pairs) spots → FitFrom a (front ++ pair ∷ pairs) spots
 one_further a front pair pairs spots fit = let P : List Pair → Type 0 = λ all. FitFrom a all spots in subst P (append_assoc front (pair ∷ []) pairs) fit
 
-points_fit_from : (span : Span) (at p : ℕ) (pairs front : List Pair) → length front ≡ at → FitFrom at (front ++ pairs) (point_spots [] span at p pairs)
+points_fit_from : (span : EdgeSpan) (at p : ℕ) (pairs front : List Pair) → length front ≡ at → FitFrom at (front ++ pairs) (point_spots [] span at p pairs)
 points_fit_from span at p [] front long = none_fit_from at (front ++ [])
 points_fit_from span at p (pair ∷ pairs) front long =
     let long_front : length (front ++ pair ∷ []) ≡ at + 1 = omega (arith, length-append front (pair ∷ [])) in
@@ -212,20 +212,20 @@ points_fit_from span at p (pair ∷ pairs) front long =
         (at_front front pair pairs at long) (value_fit (point_vertex span p) pair.value) one)
     by_test false one more = earlier at (at + 1) (front ++ pair ∷ pairs) (point_spots [] span (at + 1) p pairs) (omega arith) more
 
-points_fit : (span : Span) (pairs : List Pair) → FitIn pairs (point_spots [] span 0 0 pairs)
+points_fit : (span : EdgeSpan) (pairs : List Pair) → FitIn pairs (point_spots [] span 0 0 pairs)
 points_fit span pairs = (points_fit_from span 0 0 pairs [] refl).fit
 
-line_fit : (span : Span) (pairs : List Pair) → FitIn pairs (line_spots [] span pairs)
+line_fit : (span : EdgeSpan) (pairs : List Pair) → FitIn pairs (line_spots [] span pairs)
 line_fit span pairs = inside_fit (λ path points. point_spots path span 0 0 points) (points_relative span 0 0) (points_fit span) (codes "Line") pairs
 
 node_fit : (n : ℕ) (pairs : List Pair) → FitIn pairs (node_spots [] n pairs)
 node_fit n pairs = inside_fit (λ path list. coordinate_spots path n list) (coordinates_relative n) (coordinates_fit n) (codes "graphics") pairs
 
-edge_fit : (span : Span) (pairs : List Pair) → FitIn pairs (edge_spots [] span pairs)
+edge_fit : (span : EdgeSpan) (pairs : List Pair) → FitIn pairs (edge_spots [] span pairs)
 edge_fit span pairs = inside_fit (λ path list. line_spots path span list) (line_relative span) (line_fit span) (codes "graphics") pairs
 
 -- a pair of a graph is a node, an edge or neither
-pair_fit : (spans : List Span) (n e : ℕ) (pair : Pair) → FitBelow pair.value (pair_spots [] spans n e pair)
+pair_fit : (spans : List EdgeSpan) (n e : ℕ) (pair : Pair) → FitBelow pair.value (pair_spots [] spans n e pair)
 pair_fit spans n e pair =
     by_keys (has_key (codes "node") pair) (has_key (codes "edge") pair) (list_in pair.value) refl (apart_words (codes "node") (codes "edge") refl pair.key)
   where
@@ -242,7 +242,7 @@ pair_fit spans n e pair =
         let P : List Spot → Type 0 = FitBelow pair.value in
         subst P (sym (append-nil (node_spots [] n list))) (fit_list pair.value list (node_spots [] n list) inner (node_fit n list))
 
-graph_fit_from : (spans : List Span) (at n e : ℕ) (pairs front : List Pair) → length front ≡ at → FitFrom at (front ++ pairs) (graph_spots [] spans at n e pairs)
+graph_fit_from : (spans : List EdgeSpan) (at n e : ℕ) (pairs front : List Pair) → length front ≡ at → FitFrom at (front ++ pairs) (graph_spots [] spans at n e pairs)
 graph_fit_from spans at n e [] front long = none_fit_from at (front ++ [])
 graph_fit_from spans at n e (pair ∷ pairs) front long =
     let m = counted n (list_under (codes "node") pair) in
@@ -254,7 +254,7 @@ graph_fit_from spans at n e (pair ∷ pairs) front long =
     (fit_then at pair (front ++ pair ∷ pairs) (pair_spots [] spans n e pair) rest (at_front front pair pairs at long) (pair_fit spans n e pair)
     (one_further (at + 1) front pair pairs rest (graph_fit_from spans (at + 1) m f pairs (front ++ pair ∷ []) long_front)))
 
-graph_fit : (spans : List Span) (pairs : List Pair) → FitIn pairs (graph_spots [] spans 0 0 0 pairs)
+graph_fit : (spans : List EdgeSpan) (pairs : List Pair) → FitIn pairs (graph_spots [] spans 0 0 0 pairs)
 graph_fit spans pairs = (graph_fit_from spans 0 0 0 pairs [] refl).fit
 
 listed : (b : Bool) (o : Option (List Pair)) (list : List Pair) → cond b o None ≡ Some list → o ≡ Some list

@@ -7,11 +7,11 @@ use Rattle.compact_types.specs.declared.places.Axis.TheVariants.{X, Y}
 use Rattle.gml_text.specs.declared.tree.Pair.{Pair}
 use Rattle.gml_text.specs.declared.tree.Value.{Value}
 use Rattle.drawing_read.specs.declared.reading.Spot.{Spot}
-use Rattle.drawing_read.specs.declared.spans.Span.{Span}
+use Rattle.drawing_read.specs.declared.spans.EdgeSpan.{EdgeSpan}
 use Rattle.drawing_read.specs.Lookups.{has_key, list_in, list_under, first_list, place_under}
 use Rattle.drawing_read.specs.Spots.{spot, in_order, coordinate_spots, inside, node_spots, point_spots, edge_spots, pair_spots, counted, graph_spots}
 use Rattle.drawing_read.specs.Spans.{point_vertex, no_span}
-use Rattle.gml_print.proofs.Puts.{behind, behind_two, LeadIn, both_lead_in, behind_leads_in}
+use Rattle.gml_print.proofs.PutValues.{behind, behind_two, LeadIn, both_lead_in, behind_leads_in}
 
 -- what a path leads to has its spots behind the path
 abbrev pub IsRelative : (List ℕ → List Spot) → Type 0
@@ -91,7 +91,7 @@ value_lead v value = list_lead v (list_in value)
 append_behind : (path : List ℕ) (xs ys zs ws : List Spot) → xs ≡ map (behind path) zs → ys ≡ map (behind path) ws → xs ++ ys ≡ map (behind path) (zs ++ ws)
 append_behind path xs ys zs ws first second = rw (first, second) (sym (map-append (behind path) zs ws))
 
-pub points_relative : (span : Span) (at p : ℕ) (pairs : List Pair) → IsRelative (λ path. point_spots path span at p pairs)
+pub points_relative : (span : EdgeSpan) (at p : ℕ) (pairs : List Pair) → IsRelative (λ path. point_spots path span at p pairs)
 points_relative span at p [] path = refl
 points_relative span at p (pair ∷ pairs) path =
     by_test (has_key (codes "point") pair) (points_relative span (at + 1) (p + 1) pairs path) (points_relative span (at + 1) p pairs path)
@@ -105,7 +105,7 @@ points_relative span at p (pair ∷ pairs) path =
         (deeper (λ path. value_spots path (point_vertex span p) pair.value) (value_relative (point_vertex span p) pair.value) path at) one
     by_test false one more = more
 
-points_lead_from : (span : Span) (at p : ℕ) (pairs : List Pair) → LeadIn (point_spots [] span at p pairs)
+points_lead_from : (span : EdgeSpan) (at p : ℕ) (pairs : List Pair) → LeadIn (point_spots [] span at p pairs)
 points_lead_from span at p [] = tt
 points_lead_from span at p (pair ∷ pairs) =
     by_test (has_key (codes "point") pair) (points_lead_from span (at + 1) (p + 1) pairs) (points_lead_from span (at + 1) p pairs)
@@ -119,17 +119,17 @@ points_lead_from span at p (pair ∷ pairs) =
         (behind_leads_in at (value_spots [] (point_vertex span p) pair.value)) one)
     by_test false one more = more
 
-pub points_lead : (span : Span) (pairs : List Pair) → LeadIn (point_spots [] span 0 0 pairs)
+pub points_lead : (span : EdgeSpan) (pairs : List Pair) → LeadIn (point_spots [] span 0 0 pairs)
 points_lead span pairs = points_lead_from span 0 0 pairs
 
 -- the spots of the line in an edge's graphics
-abbrev pub line_spots : List ℕ → Span → List Pair → List Spot
+abbrev pub line_spots : List ℕ → EdgeSpan → List Pair → List Spot
 line_spots path span pairs = inside (codes "Line") path pairs (λ line points. point_spots line span 0 0 points)
 
-pub line_relative : (span : Span) (pairs : List Pair) → IsRelative (λ path. line_spots path span pairs)
+pub line_relative : (span : EdgeSpan) (pairs : List Pair) → IsRelative (λ path. line_spots path span pairs)
 line_relative span pairs = inside_relative (λ path points. point_spots path span 0 0 points) (points_relative span 0 0) (codes "Line") pairs
 
-pub line_leads : (span : Span) (pairs : List Pair) → LeadIn (line_spots [] span pairs)
+pub line_leads : (span : EdgeSpan) (pairs : List Pair) → LeadIn (line_spots [] span pairs)
 line_leads span pairs = inside_leads (λ path points. point_spots path span 0 0 points) (points_relative span 0 0) (codes "Line") pairs
 
 pub node_relative : (n : ℕ) (pairs : List Pair) → IsRelative (λ path. node_spots path n pairs)
@@ -138,21 +138,21 @@ node_relative n pairs = inside_relative (λ path list. coordinate_spots path n l
 pub node_leads : (n : ℕ) (pairs : List Pair) → LeadIn (node_spots [] n pairs)
 node_leads n pairs = inside_leads (λ path list. coordinate_spots path n list) (coordinates_relative n) (codes "graphics") pairs
 
-pub edge_relative : (span : Span) (pairs : List Pair) → IsRelative (λ path. edge_spots path span pairs)
+pub edge_relative : (span : EdgeSpan) (pairs : List Pair) → IsRelative (λ path. edge_spots path span pairs)
 edge_relative span pairs = inside_relative (λ path list. line_spots path span list) (line_relative span) (codes "graphics") pairs
 
-pub edge_leads : (span : Span) (pairs : List Pair) → LeadIn (edge_spots [] span pairs)
+pub edge_leads : (span : EdgeSpan) (pairs : List Pair) → LeadIn (edge_spots [] span pairs)
 edge_leads span pairs = inside_leads (λ path list. line_spots path span list) (line_relative span) (codes "graphics") pairs
 
 node_pair_relative : (n : ℕ) (list : Option (List Pair)) → IsRelative (λ path. option_map_or (λ list. node_spots path n list) list [])
 node_pair_relative n None path = refl
 node_pair_relative n (Some pairs) path = node_relative n pairs path
 
-edge_pair_relative : (span : Span) (list : Option (List Pair)) → IsRelative (λ path. option_map_or (λ list. edge_spots path span list) list [])
+edge_pair_relative : (span : EdgeSpan) (list : Option (List Pair)) → IsRelative (λ path. option_map_or (λ list. edge_spots path span list) list [])
 edge_pair_relative span None path = refl
 edge_pair_relative span (Some pairs) path = edge_relative span pairs path
 
-pub pair_relative : (spans : List Span) (n e : ℕ) (pair : Pair) → IsRelative (λ path. pair_spots path spans n e pair)
+pub pair_relative : (spans : List EdgeSpan) (n e : ℕ) (pair : Pair) → IsRelative (λ path. pair_spots path spans n e pair)
 pair_relative spans n e pair path =
     append_behind path (option_map_or (λ list. node_spots path n list) (list_under (codes "node") pair) [])
     (option_map_or (λ list. edge_spots path (slice_index_or spans e no_span) list) (list_under (codes "edge") pair) [])
@@ -164,17 +164,17 @@ node_pair_leads : (n : ℕ) (list : Option (List Pair)) → LeadIn (option_map_o
 node_pair_leads n None = tt
 node_pair_leads n (Some pairs) = node_leads n pairs
 
-edge_pair_leads : (span : Span) (list : Option (List Pair)) → LeadIn (option_map_or (λ list. edge_spots [] span list) list [])
+edge_pair_leads : (span : EdgeSpan) (list : Option (List Pair)) → LeadIn (option_map_or (λ list. edge_spots [] span list) list [])
 edge_pair_leads span None = tt
 edge_pair_leads span (Some pairs) = edge_leads span pairs
 
-pub pair_leads : (spans : List Span) (n e : ℕ) (pair : Pair) → LeadIn (pair_spots [] spans n e pair)
+pub pair_leads : (spans : List EdgeSpan) (n e : ℕ) (pair : Pair) → LeadIn (pair_spots [] spans n e pair)
 pair_leads spans n e pair =
     both_lead_in (option_map_or (λ list. node_spots [] n list) (list_under (codes "node") pair) [])
     (option_map_or (λ list. edge_spots [] (slice_index_or spans e no_span) list) (list_under (codes "edge") pair) [])
     (node_pair_leads n (list_under (codes "node") pair)) (edge_pair_leads (slice_index_or spans e no_span) (list_under (codes "edge") pair))
 
-pub graph_relative : (spans : List Span) (at n e : ℕ) (pairs : List Pair) → IsRelative (λ path. graph_spots path spans at n e pairs)
+pub graph_relative : (spans : List EdgeSpan) (at n e : ℕ) (pairs : List Pair) → IsRelative (λ path. graph_spots path spans at n e pairs)
 graph_relative spans at n e [] path = refl
 graph_relative spans at n e (pair ∷ pairs) path =
     append_behind path (pair_spots (path ++ at ∷ []) spans n e pair)
@@ -184,7 +184,7 @@ graph_relative spans at n e (pair ∷ pairs) path =
     (deeper (λ path. pair_spots path spans n e pair) (pair_relative spans n e pair) path at)
     (graph_relative spans (at + 1) (counted n (list_under (codes "node") pair)) (counted e (list_under (codes "edge") pair)) pairs path)
 
-graph_leads_from : (spans : List Span) (at n e : ℕ) (pairs : List Pair) → LeadIn (graph_spots [] spans at n e pairs)
+graph_leads_from : (spans : List EdgeSpan) (at n e : ℕ) (pairs : List Pair) → LeadIn (graph_spots [] spans at n e pairs)
 graph_leads_from spans at n e [] = tt
 graph_leads_from spans at n e (pair ∷ pairs) =
     let rest = graph_spots [] spans (at + 1) (counted n (list_under (codes "node") pair)) (counted e (list_under (codes "edge") pair)) pairs in
@@ -193,5 +193,5 @@ graph_leads_from spans at n e (pair ∷ pairs) =
     (both_lead_in (map (behind (at ∷ [])) (pair_spots [] spans n e pair)) rest (behind_leads_in at (pair_spots [] spans n e pair))
     (graph_leads_from spans (at + 1) (counted n (list_under (codes "node") pair)) (counted e (list_under (codes "edge") pair)) pairs))
 
-pub graph_leads : (spans : List Span) (pairs : List Pair) → LeadIn (graph_spots [] spans 0 0 0 pairs)
+pub graph_leads : (spans : List EdgeSpan) (pairs : List Pair) → LeadIn (graph_spots [] spans 0 0 0 pairs)
 graph_leads spans pairs = graph_leads_from spans 0 0 0 pairs

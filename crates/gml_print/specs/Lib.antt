@@ -1,5 +1,5 @@
 pub mod Printing
-pub mod Laws
+pub mod TextReadings
 pub mod Numbers
 pub mod Placing
 pub mod Places

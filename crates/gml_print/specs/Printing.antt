@@ -27,21 +27,22 @@ abbrev pub line : ℕ → List ℕ → List ℕ → List ℕ
 line depth key value = indentation depth ++ key ++ SPACE ∷ value ++ LINE_FEED ∷ []
 
 -- the text of a value at the depth of its key, from the texts of a list's pairs
-abbrev pub value_step : Value-F (ℕ → List ℕ) (ℕ → List ℕ) (ℕ → List ℕ) → ℕ → List ℕ
-value_step (Whole word) depth = word
-value_step (Real word) depth = word
-value_step (Text inside) depth = quoted inside
-value_step (Inner lines) depth = bracketed depth (lines (suc depth))
+abbrev pub value_text_step : Value-F (ℕ → List ℕ) (ℕ → List ℕ) (ℕ → List ℕ) → ℕ → List ℕ
+value_text_step (Whole word) depth = word
+value_text_step (Real word) depth = word
+value_text_step (Text inside) depth = quoted inside
+value_text_step (Inner lines) depth = bracketed depth (lines (suc depth))
 
-abbrev pub pair_step : Pair-F (ℕ → List ℕ) (ℕ → List ℕ) (ℕ → List ℕ) → ℕ → List ℕ
-pair_step pair depth = line depth pair.key (pair.value depth)
+abbrev pub pair_text_step : Pair-F (ℕ → List ℕ) (ℕ → List ℕ) (ℕ → List ℕ) → ℕ → List ℕ
+pair_text_step pair depth = line depth pair.key (pair.value depth)
 
-abbrev pub list_step : Tree-F (ℕ → List ℕ) (ℕ → List ℕ) (ℕ → List ℕ) → ℕ → List ℕ
-list_step tree depth = flat_map (λ lines. lines depth) tree.pairs
+abbrev pub list_text_step : Tree-F (ℕ → List ℕ) (ℕ → List ℕ) (ℕ → List ℕ) → ℕ → List ℕ
+list_text_step tree depth = flat_map (λ lines. lines depth) tree.pairs
 
 -- the lines of the pairs of a tree that stands inside so many lists
 abbrev pub printed_at : Tree → ℕ → List ℕ
-printed_at = fold-Tree (ℕ → List ℕ) (ℕ → List ℕ) (ℕ → List ℕ) value_step pair_step list_step
+printed_at = fold-Tree (ℕ → List ℕ) (ℕ → List ℕ) (ℕ → List ℕ) value_text_step pair_text_step
+    list_text_step
 
 -- The text of a tree: one line for each pair that is no list. Numerals stand as they were read,
 -- strings with their quotes.

@@ -7,17 +7,17 @@
 #![tactic(auto)]
 
 mod copy;
+mod laws;
 mod number;
 mod place;
 mod places;
 mod print;
-mod promises;
 
+pub use laws::{
+    only_spots_change, placed_text_is_read, placed_tree_is_read, placed_tree_is_within_grammar,
+    printed_text_has_the_tree, text_has_its_number,
+};
 pub use number::whole_text;
 pub use place::put_value;
 pub use places::{put_places, with_places};
 pub use print::print_tree;
-pub use promises::{
-    only_spots_change, placed_text_is_read, placed_tree_is_read, placed_tree_is_within_grammar,
-    printed_text_has_the_tree, text_has_its_number,
-};

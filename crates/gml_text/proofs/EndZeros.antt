@@ -10,7 +10,7 @@ use Rattle.std.specs.List.{list_all}
 use Rattle.gml_text.specs.Bytes.{is_digit}
 use Rattle.gml_text.proofs.Digits.{value_of_both}
 use Rattle.gml_text.specs.Numerals.{digits_value, digits_value_from}
-use Rattle.gml_text.specs.inner.Scaling.{ends_in_zero, ends_in_zero_after, IsKept}
+use Rattle.gml_text.specs.inner.Scaling.{ends_in_zero, ends_in_zero_after, IsWithoutEndZeros}
 
 last_digit : (before : Bool) (b : ℕ) (digits : List ℕ) →
     ends_in_zero_after before (b ∷ digits) ≡ (get_or (b ∷ digits) (length digits) 0 == 48)
@@ -81,7 +81,7 @@ along e h = sym (ap (list_all is_digit) e) ∙ h
 
 pub kept_both : (whole fraction f : List ℕ) → list_all is_digit whole ≡ true → list_all is_digit fraction ≡ true →
     ends_in_zero f ≡ false → length f ≤ length fraction → fraction ≡ f ++ replicate (length fraction - length f) 48 →
-    0 < length f → IsKept whole fraction whole f
+    0 < length f → IsWithoutEndZeros whole fraction whole f
 kept_both whole fraction f w h last within e some =
     let d : list_all is_digit f ≡ true = all_of_front f (replicate (length fraction - length f) 48) (along e h) in
     record {
@@ -98,7 +98,7 @@ kept_both whole fraction f w h last within e some =
 pub kept_whole : (whole fraction v f : List ℕ) → list_all is_digit whole ≡ true →
     length f ≡ 0 → fraction ≡ f ++ replicate (length fraction - length f) 48 →
     ends_in_zero v ≡ false → length v ≤ length whole → whole ≡ v ++ replicate (length whole - length v) 48 →
-    IsKept whole fraction v f
+    IsWithoutEndZeros whole fraction v f
 kept_whole whole fraction v (b ∷ f) h none e last within k = absurd (omega arith)
 kept_whole whole fraction v [] h none e last within k =
     let d : list_all is_digit v ≡ true = all_of_front v (replicate (length whole - length v) 48) (along k h) in

@@ -13,15 +13,15 @@ use Rattle.gml_text.specs.Faults.{KeyPlace, ValuePlace, FirstFault, at_the_top, 
 use Rattle.gml_text.specs.Numerals.{Numeral, HasParts}
 use Rattle.gml_text.specs.NumeralKinds.{kind_of, parts_of}
 use Rattle.gml_text.specs.declared.limits.TheConstants.{MOST_DEPTH}
-use Rattle.gml_text.specs.inner.Reading.{State, goes_on, stops, step_of, run, finish_in, answer_of, at_the_start, moved, close_in, fault_at, read_value, read_inside, read_numeral_of}
+use Rattle.gml_text.specs.inner.Reading.{ReaderState, goes_on, stops, reader_step, run, finish_in, answer_of, at_the_start, moved_to, close_in, stop_at, read_value, read_inside, read_numeral_of}
 use Rattle.gml_text.proofs.ByteFacts.{begins_numeral-no_space, begins_numeral-no_quote, begins_numeral-no_list}
 use Rattle.gml_text.proofs.NumeralLaws.{parts-kind_of}
-use Rattle.gml_text.proofs.Fronts.{begins, prefix_len-front}
-use Rattle.gml_text.proofs.Words.{is_key-word, is_key-some, ends_in_word-append, ends_in_word-word}
-use Rattle.gml_text.proofs.Runs.{run-goes_on, run-stops}
-use Rattle.gml_text.proofs.Tokens.{step-other, step-close, step-key, step-last_comment, value-list}
-use Rattle.gml_text.proofs.Opened.{innermost}
-use Rattle.gml_text.proofs.Complete.{Joins, run-pairs, step-value}
+use Rattle.gml_text.proofs.LongestFronts.{begins, prefix_len-front}
+use Rattle.gml_text.proofs.KeysAreWords.{is_key-word, is_key-some, ends_in_word-append, ends_in_word-word}
+use Rattle.gml_text.proofs.ReaderRuns.{run-goes_on, run-stops}
+use Rattle.gml_text.proofs.TokenSteps.{step-other, step-close, step-key, step-last_comment, value-list}
+use Rattle.gml_text.proofs.ReadFronts.{innermost}
+use Rattle.gml_text.proofs.ReaderCompleteness.{Joins, run-pairs, step-value}
 
 -- what the reader has read of a text after which a key may stand
 pub record IsReached (depth : ℕ) (text : List ℕ) (around : Option ℕ) : Type 0 where
@@ -50,9 +50,9 @@ reached (at_the_top text pairs h) = record {
 reached (in_a_list depth front around key gap inside pairs outer ends is_one spaces room h) =
     let before : IsReached depth front around = reached outer in
     let begin : List ℕ = front ++ key ++ gap in
-    let there : State = record { parents = before.parents; pairs = before.pairs; at = length front } in
+    let there : ReaderState = record { parents = before.parents; pairs = before.pairs; at = length front } in
     let parent : Parent = record { before = before.pairs; key = key; at = length begin } in
-    let opened : State = record { parents = parent ∷ before.parents; pairs = []; at = length begin + 1 } in
+    let opened : ReaderState = record { parents = parent ∷ before.parents; pairs = []; at = length begin + 1 } in
     let place : length begin ≡ length front + (length key + length gap) = place_after front key gap in
     let fits : length before.parents < MOST_DEPTH = omega (arith, before.deep) in
     record {
@@ -85,11 +85,11 @@ apart_from front key gap text is_one apart begin none =
 -- a fault where a value must stand
 value-stops : {depth : ℕ} {text : List ℕ} → ValuePlace depth text → (rest : List ℕ) (fault : GmlFault) → begins is_space rest ≡ false →
     (begins_with_word rest ≡ true → ends_in_word text ≡ false) →
-    ((s : State) (key : List ℕ) → length s.parents ≡ depth → read_value s key (length text) rest ≡ stops fault) →
+    ((s : ReaderState) (key : List ℕ) → length s.parents ≡ depth → read_value s key (length text) rest ≡ stops fault) →
     run 0 at_the_start (text ++ rest) ≡ Err fault
 value-stops (after_a_key depth front around key gap before ends is_one spaces) rest fault begin apart found =
     let here : IsReached depth front around = reached before in
-    let there : State = record { parents = here.parents; pairs = here.pairs; at = length front } in
+    let there : ReaderState = record { parents = here.parents; pairs = here.pairs; at = length front } in
     let regrouped : (front ++ key ++ gap) ++ rest ≡ front ++ (key ++ (gap ++ rest)) = simp append_assoc in
     ap (run 0 at_the_start) regrouped
     ∙ (here.reads (key ++ (gap ++ rest)) (inl ends)
@@ -116,7 +116,7 @@ finish-inner : (parents : List Parent) (pairs : List Pair) (at : ℕ) → innerm
 finish-inner [] pairs at e = absurd cc
 finish-inner (parent ∷ parents) pairs at e = let same : parent.at ≡ at = cc in ap (λ at. Err (record { at = at; kind = OpenList })) same
 
-close-outside : (parents : List Parent) (pairs : List Pair) (at : ℕ) → length parents ≡ 0 → close_in parents pairs at ≡ fault_at at StrayClose
+close-outside : (parents : List Parent) (pairs : List Pair) (at : ℕ) → length parents ≡ 0 → close_in parents pairs at ≡ stop_at at StrayClose
 close-outside [] pairs at e = refl
 close-outside (parent ∷ parents) pairs at e = absurd (omega arith)
 
@@ -126,7 +126,7 @@ lacks-all text h = ap (prefix_len (λ b. not (eqb b 34))) (sym (append-nil text)
 pub answer_of-fault : {text : List ℕ} {fault : GmlFault} → FirstFault text fault → answer_of text ≡ Err fault
 answer_of-fault (bad_key depth front around b rest before space comment close apart no_key) =
     let here : IsReached depth front around = reached before in
-    let there : State = record { parents = here.parents; pairs = here.pairs; at = length front } in
+    let there : ReaderState = record { parents = here.parents; pairs = here.pairs; at = length front } in
     here.reads (b ∷ rest) (joins-byte front b rest apart)
     ∙ run-stops there (b ∷ rest) (record { at = length front; kind = BadKey }) (omega arith)
     (step-other there b rest space comment close ∙ cond-false (is_key (first_word (b ∷ rest))) _ _ no_key)
@@ -151,16 +151,16 @@ answer_of-fault (open_list depth text at before) =
     ap (run 0 at_the_start) (sym (append-nil text)) ∙ (here.reads [] (inr refl) ∙ finish-inner here.parents here.pairs at here.inner)
 answer_of-fault (open_list_in_a_comment depth front at words before ends lack) =
     let here : IsReached depth front (Some at) = reached before in
-    let there : State = record { parents = here.parents; pairs = here.pairs; at = length front } in
+    let there : ReaderState = record { parents = here.parents; pairs = here.pairs; at = length front } in
     let last : List ℕ = 35 ∷ words in
     here.reads last (inl ends)
     ∙ (ap (run 0 there) (sym (append-nil last))
-    ∙ (run-goes_on there (moved there (there.at + suc (length words))) last [] (omega arith)
-    (ap (step_of there) (append-nil last) ∙ step-last_comment there words lack) refl
+    ∙ (run-goes_on there (moved_to there (there.at + suc (length words))) last [] (omega arith)
+    (ap (reader_step there) (append-nil last) ∙ step-last_comment there words lack) refl
     ∙ finish-inner here.parents here.pairs at here.inner))
 answer_of-fault (stray_close front rest before) =
     let here : IsReached 0 front None = reached before in
-    let there : State = record { parents = here.parents; pairs = here.pairs; at = length front } in
+    let there : ReaderState = record { parents = here.parents; pairs = here.pairs; at = length front } in
     here.reads (93 ∷ rest) (inr refl)
     ∙ run-stops there (93 ∷ rest) (record { at = length front; kind = StrayClose }) (omega arith)
     (step-close there rest ∙ close-outside here.parents here.pairs (length front) here.deep)

@@ -11,10 +11,10 @@ use Rattle.gml_text.specs.Faults.{FirstFault}
 use Rattle.gml_text.specs.Texts.{Spells}
 use Rattle.gml_text.specs.Grammar.{IsReadable}
 use Rattle.gml_text.specs.inner.Reading.{answer_of}
-use Rattle.gml_text.proofs.Complete.{answer_of-spelled}
+use Rattle.gml_text.proofs.ReaderCompleteness.{answer_of-spelled}
 use Rattle.gml_text.proofs.FirstFaults.{answer_of-fault}
-use Rattle.gml_text.proofs.Sound.{Answers, answer_of-right}
-use Rattle.gml_text.proofs.Within.{spelled_readable}
+use Rattle.gml_text.proofs.ReaderSoundness.{Answers, answer_of-right}
+use Rattle.gml_text.proofs.ReadTreeLimits.{spelled_readable}
 
 answered : (text : List ℕ) (answer : Result Tree GmlFault) → Answers text answer → ((tree : Tree) × Spells text tree) ⊎ ((fault : GmlFault) × FirstFault text fault)
 answered text (Ok tree) h = inl (tree, h)

@@ -10,8 +10,8 @@ use Rattle.gml_text.specs.declared.number.NumberFault.TheVariants.{TooFine, OutO
 use Rattle.gml_text.specs.Numerals.{Sign, no_sign, plus, minus, Exponent, Numeral, digits_value, with_sign, fraction_digits, exponent_value, power_of_ten, IsTimesTen, IsThousandths}
 use Rattle.compact_types.specs.declared.limits.TheConstants.{GREATEST_THOUSANDTHS}
 use Rattle.gml_text.specs.inner.Parts.{is_minus}
-use Rattle.gml_text.specs.inner.Scaling.{IsRaised, IsRaisedOrFault, tens_above, tens_below, tens_above_by, tens_below_by, signed, signed_answer}
-use Rattle.gml_text.proofs.Scaling.{cancel, power_above_zero}
+use Rattle.gml_text.specs.inner.Scaling.{IsDecimalShift, IsRaisedOrFault, tens_above, tens_below, tens_above_by, tens_below_by, signed, signed_answer}
+use Rattle.gml_text.proofs.PowersOfTen.{cancel, power_above_zero}
 
 -- ---- signs
 
@@ -47,7 +47,7 @@ negative_difference a b h = omega (arith, ints)
 powers : (n i j k : ℕ) → i + j ≡ k → n * 10 ^ i * 10 ^ j ≡ n * 10 ^ k
 powers n i j k e = mul_assoc n (10 ^ i) (10 ^ j) ∙ ap (λ x. n * x) (sym (pow-add 10 i j) ∙ ap (λ x. 10 ^ x) e)
 
-pub times_ten_from : (s : Bool) (number above below t : ℕ) → IsRaised number above below t →
+pub times_ten_from : (s : Bool) (number above below t : ℕ) → IsDecimalShift number above below t →
     IsTimesTen (signed s number) (pos above -ℤ pos below) (signed s t)
 times_ten_from s number above below t h = ⊎_elim less more (cases_lt above below)
   where
@@ -66,17 +66,17 @@ times_ten_from s number above below t h = ⊎_elim less more (cases_lt above bel
         (ap (signed s) e ∙ sym (signed_times s number (10 ^ (above - below))))
 
 pub times_ten_to : (s : Bool) (number above below : ℕ) (t : ℤ) → IsTimesTen (signed s number) (pos above -ℤ pos below) t →
-    (m : ℕ) × (t ≡ signed s m) × IsRaised number above below m
+    (m : ℕ) × (t ≡ signed s m) × IsDecimalShift number above below m
 times_ten_to s number above below t h = ⊎_elim less more (cases_lt above below)
   where
-    less : above < below → (m : ℕ) × (t ≡ signed s m) × IsRaised number above below m
+    less : above < below → (m : ℕ) × (t ≡ signed s m) × IsDecimalShift number above below m
     less k =
         let e : t *ℤ pos (10 ^ (below - suc above + 1)) ≡ signed s number =
         subst (λ (z : ℤ). IsTimesTen (signed s number) z t) (negative_difference above below k) h in
         let f = signed_factor s number (10 ^ (below - suc above + 1)) t (power_above_zero (below - suc above + 1)) e in
         (f.0, f.1, sym (powers f.0 (below - suc above + 1) above below (omega arith)) ∙ ap (λ x. x * 10 ^ above) f.2)
 
-    more : below ≤ above → (m : ℕ) × (t ≡ signed s m) × IsRaised number above below m
+    more : below ≤ above → (m : ℕ) × (t ≡ signed s m) × IsDecimalShift number above below m
     more k =
         let e : t ≡ signed s number *ℤ pos (10 ^ (above - below)) =
         subst (λ (z : ℤ). IsTimesTen (signed s number) z t) (difference above below k) h in (
@@ -112,7 +112,7 @@ above_of n = 3 + tens_above n.exponent
 abbrev pub below_of : Numeral → ℕ
 below_of n = length (fraction_digits n.fraction) + tens_below n.exponent
 
-pub thousandths_from : (n : Numeral) (m : ℕ) → IsRaised (digits_of n) (above_of n) (below_of n) m →
+pub thousandths_from : (n : Numeral) (m : ℕ) → IsDecimalShift (digits_of n) (above_of n) (below_of n) m →
     IsThousandths n (signed (is_minus n.sign) m)
 thousandths_from n m h =
     let t : ℤ = signed (is_minus n.sign) m in
@@ -122,7 +122,7 @@ thousandths_from n m h =
     (times_ten_from (is_minus n.sign) (digits_of n) (above_of n) (below_of n) m h))
 
 pub thousandths_to : (n : Numeral) (t : ℤ) → IsThousandths n t →
-    (m : ℕ) × (t ≡ signed (is_minus n.sign) m) × IsRaised (digits_of n) (above_of n) (below_of n) m
+    (m : ℕ) × (t ≡ signed (is_minus n.sign) m) × IsDecimalShift (digits_of n) (above_of n) (below_of n) m
 thousandths_to n t h =
     times_ten_to (is_minus n.sign) (digits_of n) (above_of n) (below_of n) t
     (subst (λ (e : ℤ). IsTimesTen (signed (is_minus n.sign) (digits_of n)) e t)
@@ -138,13 +138,13 @@ pub record IsAnswer (n : Numeral) (r : Result ℤ NumberFault) : Type 0 where
   pub out_of_range : (r ≡ Err OutOfRange) ↔ ((t : ℤ) × IsThousandths n t × (GREATEST_THOUSANDTHS < unsigned_abs t))
 
 -- a numeral has one number of thousandths
-same_as : (n : Numeral) (m : ℕ) (t : ℤ) → IsRaised (digits_of n) (above_of n) (below_of n) m → IsThousandths n t →
+same_as : (n : Numeral) (m : ℕ) (t : ℤ) → IsDecimalShift (digits_of n) (above_of n) (below_of n) m → IsThousandths n t →
     t ≡ signed (is_minus n.sign) m
 same_as n m t h k =
     let other = thousandths_to n t k in
     other.1 ∙ ap (signed (is_minus n.sign)) (cancel other.0 m (below_of n) (other.2 ∙ sym h))
 
-magnitude_is : (n : Numeral) (m : ℕ) (t : ℤ) → IsRaised (digits_of n) (above_of n) (below_of n) m → IsThousandths n t →
+magnitude_is : (n : Numeral) (m : ℕ) (t : ℤ) → IsDecimalShift (digits_of n) (above_of n) (below_of n) m → IsThousandths n t →
     unsigned_abs t ≡ m
 magnitude_is n m t h k = ap unsigned_abs (same_as n m t h k) ∙ magnitude_of_signed (is_minus n.sign) m
 

@@ -7,7 +7,7 @@ use Rattle.std.proofs.lemmas.Bool.{false≢true}
 use Rattle.std.proofs.lemmas.Bool.Decides.{Decides-int_eq, nat_tests}
 use native.Mathlib.Nat.{mul-pos}
 use Rattle.std.proofs.Math.Nat.{mul-div_cancel}
-use Rattle.gml_text.proofs.Scaling.{power_above_zero}
+use Rattle.gml_text.proofs.PowersOfTen.{power_above_zero}
 use Rattle.gml_text.specs.declared.number.NumberFault.{NumberFault}
 use Rattle.gml_text.specs.declared.number.NumberFault.TheVariants.{TooFine, OutOfRange}
 use Rattle.gml_text.specs.Numerals.{Numeral, HasParts, mantissa, power_of_ten, IsTimesTen, IsThousandths}

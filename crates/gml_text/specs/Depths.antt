@@ -11,27 +11,27 @@ greatest_by f [] = 0
 greatest_by f (x ∷ xs) = max (f x) (greatest_by f xs)
 
 -- a list is one deeper than what it has
-abbrev pub value_step : Value-F ℕ ℕ ℕ → ℕ
-value_step (Whole word) = 0
-value_step (Real word) = 0
-value_step (Text inside) = 0
-value_step (Inner depth) = suc depth
+abbrev pub value_depth_step : Value-F ℕ ℕ ℕ → ℕ
+value_depth_step (Whole word) = 0
+value_depth_step (Real word) = 0
+value_depth_step (Text inside) = 0
+value_depth_step (Inner depth) = suc depth
 
-abbrev pub pair_step : Pair-F ℕ ℕ ℕ → ℕ
-pair_step pair = pair.value
+abbrev pub pair_depth_step : Pair-F ℕ ℕ ℕ → ℕ
+pair_depth_step pair = pair.value
 
-abbrev pub list_step : Tree-F ℕ ℕ ℕ → ℕ
-list_step tree = greatest_by (λ depth. depth) tree.pairs
+abbrev pub list_depth_step : Tree-F ℕ ℕ ℕ → ℕ
+list_depth_step tree = greatest_by (λ depth. depth) tree.pairs
 
 -- how deep a value is, a pair, a list of pairs, a tree
 abbrev pub depth_of_value : Value → ℕ
-depth_of_value = fold-Value ℕ ℕ ℕ value_step pair_step list_step
+depth_of_value = fold-Value ℕ ℕ ℕ value_depth_step pair_depth_step list_depth_step
 
 abbrev pub depth_of_pair : Pair → ℕ
-depth_of_pair = fold-Pair ℕ ℕ ℕ value_step pair_step list_step
+depth_of_pair = fold-Pair ℕ ℕ ℕ value_depth_step pair_depth_step list_depth_step
 
 abbrev pub depth_of_pairs : List Pair → ℕ
 depth_of_pairs pairs = greatest_by depth_of_pair pairs
 
 abbrev pub depth_of : Tree → ℕ
-depth_of = fold-Tree ℕ ℕ ℕ value_step pair_step list_step
+depth_of = fold-Tree ℕ ℕ ℕ value_depth_step pair_depth_step list_depth_step

@@ -9,7 +9,7 @@ use Rattle.compact_types.specs.declared.plan.Shape.{Shape}
 use Rattle.compact_types.specs.Bests.{Objective, IsAttained}
 use Rattle.least_word.specs.declared.view.Member.{Member}
 use Rattle.least_word.specs.declared.view.View.{View}
-use Rattle.least_word.specs.Words.{IsHalted, IsKept, IsSeat, SomeHalts, Words}
+use Rattle.least_word.specs.Words.{IsHalted, IsSeat, KeepsWordRule, SomeHalts, Words}
 
 -- a seat's number is below the number of seats
 pub seat_below : (seats : List Member) (number : ℕ) (seat : Member) → IsSeat seats number seat → number < length seats
@@ -25,7 +25,7 @@ pub record IsRight (words : Words) (view : View) : Type 0 where
 
 -- the view of a seat that is there is right
 pub seat_is_right : (objective : Objective) (shape : Shape) (words : Words) (seats : List Member) (number : ℕ) (seat : Member)
-    → IsKept objective shape words seats → IsSeat seats number seat → IsRight words seat.view
+    → KeepsWordRule objective shape words seats → IsSeat seats number seat → IsRight words seat.view
 seat_is_right objective shape words seats number seat kept at = record {
   floor = kept.floors number seat at;
   heard = kept.heard number seat at;
@@ -43,7 +43,7 @@ pub record IsFit (objective : Objective) (shape : Shape) (before after : Words) 
   pub cause : IsHalted after → IsHalted before ⊎ (new.view.halting ≡ true)
 
 module _ (objective : Objective) (shape : Shape) (before after : Words) (seats : List Member) (number : ℕ) (old new : Member)
-    (kept : IsKept objective shape before seats) (at : IsSeat seats number old) (fit : IsFit objective shape before after seats number old new) where
+    (kept : KeepsWordRule objective shape before seats) (at : IsSeat seats number old) (fit : IsFit objective shape before after seats number old new) where
   -- a seat that has the mark, after the change
   still_halts : SomeHalts seats → SomeHalts (set seats number new)
   still_halts it = dite (ℕ_discrete it.number number)
@@ -66,7 +66,7 @@ module _ (objective : Objective) (shape : Shape) (before after : Words) (seats :
       })
       (at_set seats number n new seat is)
 
-  pub kept_by_change : IsKept objective shape after (set seats number new)
+  pub kept_by_change : KeepsWordRule objective shape after (set seats number new)
   kept_by_change = record {
     attained = fit.attained;
     small = le_trans fit.lower kept.small;
@@ -78,7 +78,7 @@ module _ (objective : Objective) (shape : Shape) (before after : Words) (seats :
 
 -- a seat more, whose view is right
 pub kept_by_one_more : (objective : Objective) (shape : Shape) (words : Words) (seats : List Member) (seat : Member)
-    → IsKept objective shape words seats → IsRight words seat.view → IsKept objective shape words (seats ++ seat ∷ [])
+    → KeepsWordRule objective shape words seats → IsRight words seat.view → KeepsWordRule objective shape words (seats ++ seat ∷ [])
 kept_by_one_more objective shape words seats seat kept right = record {
   attained = kept.attained;
   small = kept.small;

@@ -12,7 +12,7 @@ use Rattle.least_word.specs.declared.view.Member.{Member}
 use Rattle.least_word.specs.declared.view.View.{View}
 use Rattle.least_word.specs.declared.words.TheConstants.{GREATEST_WORTH}
 use Rattle.least_word.specs.Views.{after_halt, after_halt_load, after_join, after_load, after_offer, after_split, split_off}
-use Rattle.least_word.specs.Words.{IsKept, IsSeat, IsStep, SomeHalts, Words, halted_word, lowered}
+use Rattle.least_word.specs.Words.{IsSeat, IsStep, KeepsWordRule, SomeHalts, Words, halted_word, lowered}
 use Rattle.least_word.specs.inner.Plays.{FindsHalt, Changes, Halts, Holds, TableSeat, Loads, Offers, first_member, joined, with_view}
 use Rattle.least_word.proofs.RuleLemmas.{IsFit, IsRight, kept_by_change, kept_by_one_more, seat_below, seat_is_right}
 
@@ -45,7 +45,7 @@ module _ (objective : Objective) (shape : Shape) where
   }
 
   -- a change of the view alone, under words that stay
-  stays_fit : (words : Words) (seats : List Member) (number : ℕ) (seat : Member) (view : View) → IsKept objective shape words seats → IsSeat seats number seat
+  stays_fit : (words : Words) (seats : List Member) (number : ℕ) (seat : Member) (view : View) → KeepsWordRule objective shape words seats → IsSeat seats number seat
       → IsRight words view → (seat.view.halting ≡ true → view.halting ≡ true) → IsFit objective shape words words seats number seat (with_view seat view)
   stays_fit words seats number seat view kept at right mark = record {
     attained = kept.attained;
@@ -65,7 +65,7 @@ module _ (objective : Objective) (shape : Shape) where
         × then (slice_index ws i) (w, carried_after me.1 a)
 
     -- what a step tells
-    goes : (change : Words → Words) (known : View → View) (words : Words) (seats : List Member) → IsKept objective shape words seats → IsSeat seats id me.0
+    goes : (change : Words → Words) (known : View → View) (words : Words) (seats : List Member) → KeepsWordRule objective shape words seats → IsSeat seats id me.0
         → IsFit objective shape words (change words) seats id me.0 (with_view me.0 (known me.0.view)) → Changes objective change known me (with_view me.0 (known me.0.view), me.1) words
     goes change known words seats kept at fit = record {
       view = refl;

@@ -39,8 +39,8 @@ pub record SomeHalts (seats : List Member) : Type 0 where
 -- What both words and all seats keep: some drawing of the shape has the worth, which is at most the
 -- greatest and at most every seat's floor; the halt word is 0 or 1, and is set exactly if some seat
 -- has the halting mark; and a seat that has heard of a halt is right.
-pub record IsKept (objective : Objective) (shape : Shape) (words : Words) (seats : List Member) :
-    Type 0 where
+pub record KeepsWordRule (objective : Objective) (shape : Shape) (words : Words)
+    (seats : List Member) : Type 0 where
   pub attained : IsAttained objective shape (pos words.worth)
   pub small : words.worth ≤ GREATEST_WORTH
   pub floors : (number : ℕ) (seat : Member) → IsSeat seats number seat →
@@ -59,6 +59,6 @@ pub record IsStep (objective : Objective) (shape : Shape) (before after : Words)
   pub seat : Member
   pub is_seat : IsSeat seats number seat
   pub view_is : seat.view ≡ old
-  pub kept_before : IsKept objective shape before seats
-  pub kept_after : IsKept objective shape after
+  pub kept_before : KeepsWordRule objective shape before seats
+  pub kept_after : KeepsWordRule objective shape after
       (slice_set seats number (record seat { view = new }))

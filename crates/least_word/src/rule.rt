@@ -22,11 +22,11 @@ impl<P: Backing> TableRule<(), Member, Shape> for Rule<P> {
 }
 
 /// A load of the worth.
-pub struct Load<P> {
+pub struct LoadWorth<P> {
     measure: PhantomData<P>,
 }
 
-impl<P: Backing> Play<(), Member> for Load<P> {
+impl<P: Backing> Play<(), Member> for LoadWorth<P> {
     ghost then = { Loads P.objective };
 }
 

@@ -2,13 +2,13 @@
 
 ghost use Rattle.std.specs.Prelude.{◌≡◌, ◌≤◌, ◌↔◌, pos, IfOk, IsTrue};
 ghost use Rattle.compact_types.specs.Bests.{IsAttained};
-ghost use Rattle.least_word.specs.Seats.{Home};
+ghost use Rattle.least_word.specs.Seats.{WordHome};
 ghost use Rattle.least_word.specs.Views.{after_halt, after_halt_load, after_join, after_load};
 ghost use Rattle.least_word.specs.Views.{after_offer, after_split, new_view, split_off};
 ghost use Rattle.least_word.specs.Words.{IsHalted, IsStep, Words, halted_word, lowered};
 ghost use Rattle.least_word.specs.declared.words.TheConstants.{GREATEST_WORTH};
 
-use crate::rule::{Both, FindHalt, Halt, Halves, Load, Offer, Rule};
+use crate::rule::{Both, FindHalt, Halt, Halves, LoadWorth, Offer, Rule};
 use crate::view::Member;
 use crate::words::{HALT_WORD, WORTH_WORD};
 use atomic_table::{Seat, Table};
@@ -25,7 +25,7 @@ pub struct LeastWord<P: Backing> {
 }
 
 impl<P: Backing> Model for LeastWord<P> {
-    ghost Value = { Home };
+    ghost Value = { WordHome };
 
     ghost view = { λ word. record {
       table = word.table.shared.table_id;
@@ -44,13 +44,13 @@ pub struct WordSeat {
 
 impl Model for WordSeat {
     ghost use Rattle.least_word.specs.Seats.{SeatView};
-    ghost use Rattle.least_word.specs.inner.Members.{IsSeated, seat_view};
+    ghost use Rattle.least_word.specs.inner.Members.{IsSeatInHand, seat_view};
 
     ghost Value = { SeatView };
 
     ghost view = { λ it. seat_view it.seat.table_id it.seat.me.0 };
 
-    ghost invariant = { λ it. IsSeated it.seat.me };
+    ghost invariant = { λ it. IsSeatInHand it.seat.me };
 }
 
 #[tactic(auto, using(crate::proofs::StepLemmas::steps))]
@@ -110,7 +110,7 @@ impl<P: Backing> LeastWord<P> {
     {
         self.table
             .shared
-            .load::<Load<P>>(&mut seat.seat, WORTH_WORD)
+            .load::<LoadWorth<P>>(&mut seat.seat, WORTH_WORD)
     }
 
     /// Lowers the least worth to that of a drawing, if it is not less already. It takes no memory.

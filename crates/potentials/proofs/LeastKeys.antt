@@ -30,10 +30,10 @@ use Rattle.diff_flow.proofs.Laws.{closed, closed_most, closed_slow}
 use Rattle.diff_flow.proofs.Laws.{shortest_meet}
 use Rattle.diff_flow.proofs.Laws.{nat, nat_is, tight_without_gaps}
 use Rattle.potentials.specs.Standing.{StandAt}
-use Rattle.potentials.proofs.Ceilings.{low_numbers, low_numbers_tight}
+use Rattle.potentials.proofs.FlowBounds.{low_numbers, low_numbers_tight}
 use Rattle.potentials.proofs.LengthLemmas.{length_is}
-use Rattle.potentials.proofs.Minima.{IsInBox, least_that, decide_all, zero_or_none, heights, same_heights, listed, listed_at, listed_in_box}
-use Rattle.potentials.proofs.Standings.{node_taken, own_numbers, stand_at_own, stands, solution_from, solves_from}
+use Rattle.potentials.proofs.LeastWeights.{IsInBox, least_that, decide_all, zero_or_none, heights, same_heights, listed, listed_at, listed_in_box}
+use Rattle.potentials.proofs.NodePlaces.{node_taken, own_numbers, stand_at_own, stands, solution_from, solves_from}
 use Rattle.potentials.proofs.TightKeys.{graph_of}
 
 -- how far below zero a number is

@@ -25,7 +25,7 @@ use Rattle.shape_graphs.specs.declared.graph.Arc.{Arc}
 use Rattle.shape_graphs.specs.Flows.{length_over}
 use Rattle.shape_graphs.specs.Graphs.{arcs_of, piece_arc, piece_arcs, piece_arc_along, choice_arcs, choice_arc_along, side_arc}
 use Rattle.potentials.specs.Standing.{StandAt}
-use Rattle.potentials.proofs.Totals.{total, share, total-append, total-range, total-nothing}
+use Rattle.potentials.proofs.ArcSums.{total, share, total-append, total-range, total-nothing}
 
 -- how far apart the ends of a piece are, by its low and its high end
 gap_rising : (way : Way) (piece : Piece) (f : ℕ → ℤ) → f (low_end way piece) <ℤ f (high_end way piece) →

@@ -1,10 +1,10 @@
-pub mod Totals
+pub mod ArcSums
 pub mod LengthLemmas
 pub mod PieceLemmas
-pub mod Standings
-pub mod Ceilings
+pub mod NodePlaces
+pub mod FlowBounds
 pub mod TightKeys
-pub mod Minima
+pub mod LeastWeights
 pub mod LeastKeys
 pub mod LowKeys
 pub mod SolvingLemmas

@@ -25,7 +25,7 @@ use Rattle.diff_flow.proofs.Laws.{closed, closed_most, closed_slow, all_covered}
 use Rattle.diff_flow.proofs.Laws.{nat, nat_is, tight_without_gaps}
 use Rattle.potentials.specs.Standing.{StandAt}
 use Rattle.potentials.proofs.LeastKeys.{AreLowest, lowest_numbers, shorter, places_by_stand, places_by_least}
-use Rattle.potentials.proofs.Standings.{node_taken, own_numbers, solution_from, stand_at_own, stands}
+use Rattle.potentials.proofs.NodePlaces.{node_taken, own_numbers, solution_from, stand_at_own, stands}
 use Rattle.potentials.proofs.TightKeys.{graph_of}
 
 -- lowest numbers of a graph whose leasts are 1

@@ -17,8 +17,8 @@ use Rattle.bars.specs.Solutions.{HasDrawing}
 use Rattle.shape_graphs.specs.declared.graph.Arc.{Arc}
 use Rattle.shape_graphs.specs.Graphs.{piece_arc, piece_arcs, piece_arc_along}
 use Rattle.shape_graphs.proofs.Laws.{few_piece_arcs}
-use Rattle.potentials.proofs.Ceilings.{sum_from_zero}
-use Rattle.potentials.proofs.Totals.{share, total-range}
+use Rattle.potentials.proofs.FlowBounds.{sum_from_zero}
+use Rattle.potentials.proofs.ArcSums.{share, total-range}
 
 -- a length is not negative
 pub length_from_zero : (plan : Plan) (places : Places) → pos 0 ≤ℤ (plain_length_of plan places)

@@ -11,14 +11,14 @@ use Rattle.shape_graphs.specs.declared.graph.DiffGraph.{DiffGraph}
 use Rattle.shape_graphs.specs.Arcs.{arc_at, no_arc}
 use Rattle.shape_graphs.specs.Flows.{Balances, bound_of, IsFlowOn, number_at}
 use Rattle.diff_flow.specs.Tight.{AreLeastTight, AreTight}
-use Rattle.diff_flow.specs.Walks.{AreLongestWalks, AreWalksOf, IsOneMore}
+use Rattle.diff_flow.specs.Walks.{AreLongestWalkLengths, AreWalkLengthsOf, HasOneMoreArc}
 use Rattle.potentials.specs.declared.reached.Bounded.{Bounded}
 use Rattle.potentials.specs.declared.reached.Level.{Level}
-use Rattle.potentials.specs.declared.reached.Reached.{Reached}
+use Rattle.potentials.specs.declared.reached.FoundFlow.{FoundFlow}
 use Rattle.potentials.specs.declared.solver.AxisSolver.{AxisSolver}
-use Rattle.potentials.specs.inner.Solving.{AreLeastNumbers, BalancesOn, HasTight, IsBegun, IsBounded, IsSolvable}
-use Rattle.potentials.specs.inner.Solving.IsBegun.{on_all_but_last}
-use Rattle.potentials.specs.inner.Solvers.{AreLevels, AreNumbersBefore, HasChoiceMore, IsBestOn, IsReached, IsSame, IsSolver, MeetsLast}
+use Rattle.potentials.specs.inner.Solving.{AreLeastNumbers, BalancesOn, HasTight, IsBounded, IsSolvable, IsStartingFlow}
+use Rattle.potentials.specs.inner.Solving.IsStartingFlow.{on_all_but_last}
+use Rattle.potentials.specs.inner.Solvers.{AreLevels, AreNumbersBefore, HasChoiceMore, IsBestOn, IsFoundFlow, IsSame, IsSolver, MeetsLast}
 use Rattle.potentials.specs.inner.Solvers.AreLevels.{no_level, one_more}
 use Rattle.potentials.proofs.StartLemmas.{begun_longer}
 
@@ -59,10 +59,10 @@ module _ (graph other : DiffGraph) (same : IsSame graph other) where
     least = there (λ (n : ℕ) (a : List Arc). AreLeastTight n a flow.amounts (number_at numbers)) is.least;
   }
 
-  pub walks_there : (walks : List ℕ) → AreWalksOf other walks → AreWalksOf graph walks
+  pub walks_there : (walks : List ℕ) → AreWalkLengthsOf other walks → AreWalkLengthsOf graph walks
   walks_there walks is = record {
     one_for_each = is.one_for_each ∙ same.nodes;
-    longest = there (λ (n : ℕ) (a : List Arc). AreLongestWalks n a (λ v. pos (slice_index walks v))) is.longest;
+    longest = there (λ (n : ℕ) (a : List Arc). AreLongestWalkLengths n a (λ v. pos (slice_index walks v))) is.longest;
   }
 
   pub best_there : (best : Bounded) → IsBestOn other best → IsBestOn graph best
@@ -82,7 +82,7 @@ module _ (graph other : DiffGraph) (same : IsSame graph other) where
   numbers_if_some None (Some numbers) is = is
   numbers_if_some (Some best) (Some numbers) is = numbers_there best.flow numbers is
 
-  pub reached_there : (reached : Reached) → IsReached other reached → IsReached graph reached
+  pub reached_there : (reached : FoundFlow) → IsFoundFlow other reached → IsFoundFlow graph reached
   reached_there reached is = record {
     best = best_if_some reached.best is.best;
     numbers = numbers_if_some reached.best reached.numbers is.numbers;
@@ -111,7 +111,7 @@ module _ (graph : DiffGraph) (flow : Flow) (numbers : List ℤ) (is : AreNumbers
   abbrev last : Arc
   last = is.more.one.last
 
-  begun_before : IsBegun graph flow
+  begun_before : IsStartingFlow graph flow
   begun_before =
       on_all_but_last is.before.arcs last is.more.one.arcs is.more.no_pull is.balances.amounts
       (subst (λ (n : ℕ). Balances n is.before.arcs flow.amounts) (sym is.more.one.nodes) is.balances.balances)
@@ -150,8 +150,8 @@ pub record IsUnder (graph : DiffGraph) (front : List Level) (level : Level) : Ty
   pub before : DiffGraph
   pub more : HasChoiceMore before graph
   pub solvable : IsSolvable before
-  pub walks : AreWalksOf before level.walks
-  pub reached : IsReached before level.reached
+  pub walks : AreWalkLengthsOf before level.walks
+  pub reached : IsFoundFlow before level.reached
   pub below : AreLevels before front
 
 pub last_level : (graph : DiffGraph) (levels front : List Level) (level : Level) → levels ≡ front ++ level ∷ [] → AreLevels graph levels → IsUnder graph front level
@@ -162,20 +162,20 @@ last_level graph levels front level are (one_more before graph-1 front-1 level-1
       before = before;
       more = more;
       solvable = solvable;
-      walks = subst (λ (l : Level). AreWalksOf before l.walks) same.1 walks;
-      reached = subst (λ (l : Level). IsReached before l.reached) same.1 reached;
+      walks = subst (λ (l : Level). AreWalkLengthsOf before l.walks) same.1 walks;
+      reached = subst (λ (l : Level). IsFoundFlow before l.reached) same.1 reached;
       below = subst (λ (l : List Level). AreLevels before l) same.0 below;
     }
 
 -- nothing was found yet
-nothing_reached : (graph : DiffGraph) (reached : Reached) → reached.best ≡ None → reached.numbers ≡ None → IsReached graph reached
+nothing_reached : (graph : DiffGraph) (reached : FoundFlow) → reached.best ≡ None → reached.numbers ≡ None → IsFoundFlow graph reached
 nothing_reached graph reached no_best no_numbers = record {
   best = subst (λ (o : Option Bounded). IfSome o (IsBestOn graph)) (sym no_best) tt;
   numbers = subst (λ (o : Option (List ℤ)). IfSome o (λ numbers. MatchOption reached.best ⊥ (λ best. AreLeastNumbers graph best.flow numbers))) (sym no_numbers) tt;
 }
 
 -- the solver of a graph, without levels
-pub fresh_solver : (graph network : DiffGraph) (reached : Reached) (levels : List Level) → graph.nodes ≤ MOST_VERTICES → network ≡ graph →
+pub fresh_solver : (graph network : DiffGraph) (reached : FoundFlow) (levels : List Level) → graph.nodes ≤ MOST_VERTICES → network ≡ graph →
     (HasCycle graph.arcs → ⊥) → reached.best ≡ None → reached.numbers ≡ None → levels ≡ [] →
     IsSolver (record { network = network; reached = reached; levels = levels })
 fresh_solver graph network reached levels few is none no_best no_numbers no_levels = record {
@@ -186,8 +186,8 @@ fresh_solver graph network reached levels few is none no_best no_numbers no_leve
 
 -- the solver of a graph with one arc more
 pub solver_more : (solver : AxisSolver) (graph : DiffGraph) → IsSolver solver → HasChoiceMore solver.network graph →
-    (network : DiffGraph) (reached : Reached) (levels : List Level) (level : Level) → network ≡ graph → (HasCycle graph.arcs → ⊥) →
-    AreWalksOf solver.network level.walks → level.reached ≡ solver.reached → reached.best ≡ None → reached.numbers ≡ None →
+    (network : DiffGraph) (reached : FoundFlow) (levels : List Level) (level : Level) → network ≡ graph → (HasCycle graph.arcs → ⊥) →
+    AreWalkLengthsOf solver.network level.walks → level.reached ≡ solver.reached → reached.best ≡ None → reached.numbers ≡ None →
     levels ≡ solver.levels ++ level ∷ [] → IsSolver (record { network = network; reached = reached; levels = levels })
 solver_more solver graph is more network reached levels level same none walks was no_best no_numbers pushed = record {
   solvable = subst IsSolvable (sym same) (record {
@@ -196,11 +196,11 @@ solver_more solver graph is more network reached levels level same none walks wa
   });
   reached = nothing_reached network reached no_best no_numbers;
   levels = one_more solver.network network solver.levels level levels pushed (subst (λ (g : DiffGraph). HasChoiceMore solver.network g) (sym same) more)
-      is.solvable walks (subst (IsReached solver.network) (sym was) is.reached) is.levels;
+      is.solvable walks (subst (IsFoundFlow solver.network) (sym was) is.reached) is.levels;
 }
 
 -- the solver of a graph without its last arc
-module _ (solver : AxisSolver) (graph : DiffGraph) (is : IsSolver solver) (fewer : IsOneMore graph solver.network)
+module _ (solver : AxisSolver) (graph : DiffGraph) (is : IsSolver solver) (fewer : HasOneMoreArc graph solver.network)
     (front : List Level) (level : Level) (are : solver.levels ≡ front ++ level ∷ []) where
   abbrev under : IsUnder solver.network front level
   under = last_level solver.network solver.levels front level are is.levels
@@ -213,7 +213,7 @@ module _ (solver : AxisSolver) (graph : DiffGraph) (is : IsSolver solver) (fewer
         arcs = arcs.0;
       }
 
-  pub walks_less : AreWalksOf graph level.walks
+  pub walks_less : AreWalkLengthsOf graph level.walks
   walks_less = walks_there graph under.before same_before level.walks under.walks
 
   pub solver_less : (network : DiffGraph) → network ≡ graph → IsSolver (record { network = network; reached = level.reached; levels = front })

@@ -33,7 +33,7 @@ use Rattle.potentials.specs.Standing.{StandAt, numbers_along}
 use Rattle.potentials.specs.TightPlaces.{AreTightPlaces, AreLeastTightPlaces}
 use Rattle.potentials.specs.declared.reached.Bounded.{Bounded}
 use Rattle.potentials.specs.inner.Solving.{BalancesOn, IsBounded, IsSolvable}
-use Rattle.potentials.proofs.Ceilings.{bound_from_zero, bound_small}
+use Rattle.potentials.proofs.FlowBounds.{bound_from_zero, bound_small}
 use Rattle.potentials.proofs.TightKeys.{worth_above, bound_at_tight, least_from_tight, least_tight_places, none_where_none}
 
 -- the verdict is right, as asked, and backed

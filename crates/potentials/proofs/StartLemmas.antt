@@ -23,8 +23,8 @@ use Rattle.shape_graphs.specs.Backings.{DoBack, flow_of}
 use Rattle.shape_graphs.specs.Flows.{amount_at, at_node, Balances, IsFlowOn, net}
 use Rattle.shape_graphs.specs.Graphs.{arcs_of, choice_arc_along, choice_arcs, IsGraphOf, piece_arcs, side_arc}
 use Rattle.shape_graphs.specs.Measures.{BacksBefore}
-use Rattle.potentials.specs.inner.Solving.{BalancesOn, IsBegun}
-use Rattle.potentials.specs.inner.Solving.IsBegun.{on_all, on_all_but_last}
+use Rattle.potentials.specs.inner.Solving.{BalancesOn, IsStartingFlow}
+use Rattle.potentials.specs.inner.Solving.IsStartingFlow.{on_all, on_all_but_last}
 
 -- nothing is nothing at every node
 nothing_at : (a b : ℕ) → at_node a b (pos 0) ≡ pos 0
@@ -81,7 +81,7 @@ module _ (arcs : List Arc) (arc : Arc) (amounts : List ℕ) (flow : IsFlowOn arc
   }
 
 -- the flow with an amount on the last arc, where the graph has an arc more
-pub begun_longer : (graph : DiffGraph) (flow : Flow) → IsBegun graph flow → length flow.amounts < length graph.arcs →
+pub begun_longer : (graph : DiffGraph) (flow : Flow) → IsStartingFlow graph flow → length flow.amounts < length graph.arcs →
     (new : Flow) → new.amounts ≡ flow.amounts ++ 0 ∷ [] → BalancesOn graph new
 begun_longer graph flow (on_all balances) less new is = absurd (omega (arith, less, balances.amounts.one_for_each))
 begun_longer graph flow (on_all_but_last arcs last are no_pull amounts balances) less new is =
@@ -92,7 +92,7 @@ begun_longer graph flow (on_all_but_last arcs last are no_pull amounts balances)
     })
 
 -- the flow, where it has an amount for every arc
-pub begun_whole : (graph : DiffGraph) (flow : Flow) → IsBegun graph flow → length graph.arcs ≤ length flow.amounts → BalancesOn graph flow
+pub begun_whole : (graph : DiffGraph) (flow : Flow) → IsStartingFlow graph flow → length graph.arcs ≤ length flow.amounts → BalancesOn graph flow
 begun_whole graph flow (on_all balances) enough = balances
 begun_whole graph flow (on_all_but_last arcs last are no_pull amounts balances) enough =
     let longer = ap (λ (a : List Arc). length a) are in
@@ -110,14 +110,14 @@ module _ (shape : Shape) (choices : List Choice) (start : Flows) (back : BacksBe
       ∙ ap (λ (l : List Arc). piece_arcs axis shape ++ l) (filter_map-append (choice_arc_along axis shape) back.before (back.last ∷ []))
       ∙ sym (append_assoc (piece_arcs axis shape) (choice_arcs axis shape back.before) (cons_option (choice_arc_along axis shape back.last) []))
 
-  pub begun : IsBegun graph (flow_of axis start)
+  pub begun : IsStartingFlow graph (flow_of axis start)
   begun = by_test (is_axis (side_axis back.last.side) axis) arcs_are
     where
       balances : Balances graph.nodes older (flow_of axis start).amounts
       balances = subst (λ (n : ℕ). Balances n older (flow_of axis start).amounts) (sym is.nodes) (back.backs.balanced axis).balances
 
       by_test : (test : Bool) →
-          graph.arcs ≡ older ++ cons_option (if test then Some (side_arc shape back.last.s back.last.t back.last.side) else None) [] → IsBegun graph (flow_of axis start)
+          graph.arcs ≡ older ++ cons_option (if test then Some (side_arc shape back.last.s back.last.t back.last.side) else None) [] → IsStartingFlow graph (flow_of axis start)
       by_test true are = on_all_but_last older (side_arc shape back.last.s back.last.t back.last.side) are refl (back.backs.balanced axis).amounts balances
       by_test false are =
           let same : graph.arcs ≡ older = are ∙ append-nil older in

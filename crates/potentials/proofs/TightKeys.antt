@@ -29,7 +29,7 @@ use Rattle.diff_flow.proofs.Laws.{least_taken}
 use Rattle.potentials.specs.Standing.{StandAt}
 use Rattle.potentials.specs.TightPlaces.{AreTightPlaces, AreLeastTightPlaces}
 use Rattle.potentials.proofs.LengthLemmas.{length_is}
-use Rattle.potentials.proofs.Standings.{node_taken, own_numbers, stand_at_own, stands, solution_from, solves_from, tight_from, tight_to}
+use Rattle.potentials.proofs.NodePlaces.{node_taken, own_numbers, stand_at_own, stands, solution_from, solves_from, tight_from, tight_to}
 
 -- how far all points are moved along an axis
 abbrev shift_along : ℤ → ℤ → Axis → ℤ

@@ -17,7 +17,7 @@ use Rattle.shape_graphs.specs.Growing.{AreGrown, graph_on}
 use Rattle.shape_graphs.specs.Measures.{IsFirstCyclic}
 use Rattle.shape_graphs.specs.Paths.{HasCycle, IsCycle}
 use Rattle.shape_graphs.proofs.Laws.{arc_along, no_arc_across, no_cycle_where_solved}
-use Rattle.diff_flow.specs.Walks.{IsOneMore}
+use Rattle.diff_flow.specs.Walks.{HasOneMoreArc}
 use Rattle.potentials.specs.declared.reached.Level.{Level}
 use Rattle.potentials.specs.declared.solver.AxisSolver.{AxisSolver}
 use Rattle.potentials.specs.inner.Solvers.{HasChoiceMore, IsSolver, IsSolverOf}
@@ -105,7 +105,7 @@ module _ (shape : Shape) (less more : GrowingGraphs) (choice : Choice) (axis : A
         let same = ap (λ (l : List Choice). length (choice_arcs axis shape l)) longer in
         omega (arith, arcs, before, same)
 
-    pub has_less : IsOneMore (graph_on axis less).graph solver.network
+    pub has_less : HasOneMoreArc (graph_on axis less).graph solver.network
     has_less = record {
       nodes = sym follows.solver_for.same.nodes ∙ same_nodes axis;
       last = arc;

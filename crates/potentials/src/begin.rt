@@ -4,12 +4,13 @@
 ghost use Rattle.std.specs.Prelude.{◌≡◌, ◌<◌, ℕ, ◌^◌, ◌+ℤ◌, ◌≤ℤ◌, [], ◌∷◌, ◌++◌, pos, length};
 ghost use Rattle.std.specs.Prelude.{IfOk, IsSome, MatchBool, MatchOption};
 ghost use Rattle.shape_graphs.specs.Flows.{bound_of, number_at};
-ghost use Rattle.potentials.specs.inner.Solving.{AreLeastNumbers, BalancesOn, HasTight, IsBegun};
+ghost use Rattle.potentials.specs.inner.Solving.{AreLeastNumbers, BalancesOn, HasTight};
+ghost use Rattle.potentials.specs.inner.Solving.{IsStartingFlow};
 ghost use Rattle.potentials.specs.inner.Solving.{IsBounded, IsSolvable};
-ghost use Rattle.potentials.specs.inner.Solvers.{AreNumbersBefore, IsReached, IsSame};
+ghost use Rattle.potentials.specs.inner.Solvers.{AreNumbersBefore, IsFoundFlow, IsSame};
 ghost use Rattle.potentials.specs.inner.Solvers.{MeetsLast};
 
-use crate::reached::{Bounded, Reached};
+use crate::reached::{Bounded, FoundFlow};
 use compact_types::{Flow, Items, NoMemory};
 use diff_flow::{Network, bound, first_flow, least_numbers_that_meet_an_arc};
 use shape_graphs::DiffGraph;
@@ -23,11 +24,11 @@ pub(crate) fn from_before(
     network: &Network,
     best: &Bounded,
     numbers: &Items<i64>,
-) -> Result<Reached, NoMemory>
+) -> Result<FoundFlow, NoMemory>
     requires graph { IsSame network.now graph.now }
     requires solvable { IsSolvable graph.now }
     requires before { AreNumbersBefore graph.now best.now.flow numbers.now }
-    ensures reached { IfOk result (IsReached network.now) }
+    ensures reached { IfOk result (IsFoundFlow network.now) }
     ensures best { IfOk result (λ reached. IsSome reached.best) }
 {
     let mut flow = longer(alloc, &best.flow, graph.arcs.len())?;
@@ -35,13 +36,13 @@ pub(crate) fn from_before(
         // That the numbers stay the least.
         least_numbers_that_meet_an_arc();
         let numbers = numbers.copy()?;
-        return Ok(Reached {
+        return Ok(FoundFlow {
             best: Some(with_bound(graph, flow)),
             numbers: Some(numbers),
         });
     }
     network.make_best_from(alloc, &mut flow, numbers)?;
-    Ok(Reached {
+    Ok(FoundFlow {
         best: Some(with_bound(graph, flow)),
         numbers: None,
     })
@@ -79,16 +80,16 @@ pub(crate) fn from_start(
     graph: &DiffGraph,
     network: &Network,
     start: Option<&Flow>,
-) -> Result<Reached, NoMemory>
+) -> Result<FoundFlow, NoMemory>
     requires graph { IsSame network.now graph.now }
     requires solvable { IsSolvable graph.now }
-    requires start { MatchOption start (Unit {0}) (λ flow. IsBegun graph.now flow.now) }
-    ensures reached { IfOk result (IsReached network.now) }
+    requires start { MatchOption start (Unit {0}) (λ flow. IsStartingFlow graph.now flow.now) }
+    ensures reached { IfOk result (IsFoundFlow network.now) }
     ensures best { IfOk result (λ reached. IsSome reached.best) }
 {
     let mut flow = begun(alloc, graph, start)?;
     network.make_best(alloc, &mut flow)?;
-    Ok(Reached {
+    Ok(FoundFlow {
         best: Some(with_bound(graph, flow)),
         numbers: None,
     })
@@ -96,7 +97,7 @@ pub(crate) fn from_start(
 
 /// The flow to begin with, with an amount for every arc, or the first flow.
 fn begun(alloc: Global, graph: &DiffGraph, start: Option<&Flow>) -> Result<Flow, NoMemory>
-    requires { MatchOption start (Unit {0}) (λ flow. IsBegun graph.now flow.now) }
+    requires { MatchOption start (Unit {0}) (λ flow. IsStartingFlow graph.now flow.now) }
     ensures { IfOk result (BalancesOn graph.now) }
 {
     match start {
@@ -107,7 +108,7 @@ fn begun(alloc: Global, graph: &DiffGraph, start: Option<&Flow>) -> Result<Flow,
 
 /// The same flow. If it has no amount for the last arc it carries nothing there.
 fn on_all_arcs(alloc: Global, graph: &DiffGraph, start: &Flow) -> Result<Flow, NoMemory>
-    requires { IsBegun graph.now start.now }
+    requires { IsStartingFlow graph.now start.now }
     ensures { IfOk result (BalancesOn graph.now) }
 {
     if start.amounts.len() >= graph.arcs.len() {

@@ -15,7 +15,7 @@ pub(crate) struct Bounded {
 
 /// What was found for a graph.
 #[derive(Drop)]
-pub(crate) struct Reached {
+pub(crate) struct FoundFlow {
     /// A best flow, once there is one.
     pub(crate) best: Option<Bounded>,
     /// The least numbers that are tight for it, once they were asked for.
@@ -27,16 +27,16 @@ pub(crate) struct Reached {
 pub(crate) struct Level {
     /// The longest walks, by which the arc can be taken away again.
     pub(crate) walks: Items<u64>,
-    pub(crate) reached: Reached,
+    pub(crate) reached: FoundFlow,
 }
 
-impl Reached {
+impl FoundFlow {
     /// Nothing yet.
-    pub(crate) fn nothing() -> Reached
+    pub(crate) fn nothing() -> FoundFlow
         ensures best { result.best ≡ None }
         ensures numbers { result.numbers ≡ None }
     {
-        Reached {
+        FoundFlow {
             best: None,
             numbers: None,
         }

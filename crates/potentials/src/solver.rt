@@ -5,13 +5,13 @@ ghost use Rattle.std.specs.Prelude.{◌≡◌, ◌≤◌, ◌<◌, suc, [], leng
 ghost use Rattle.std.specs.Prelude.{IfOk, IsSome, MatchBool, MatchOption, None, OnOk, Some};
 ghost use Rattle.compact_types.specs.declared.limits.TheConstants.{MOST_VERTICES};
 ghost use Rattle.shape_graphs.specs.Paths.{HasCycle};
-ghost use Rattle.diff_flow.specs.Walks.{IsOneMore};
-ghost use Rattle.potentials.specs.inner.Solving.{AreLeastNumbers, IsBegun};
-ghost use Rattle.potentials.specs.inner.Solvers.{HasChoiceMore, IsBestOn, IsReached, IsSame};
+ghost use Rattle.diff_flow.specs.Walks.{HasOneMoreArc};
+ghost use Rattle.potentials.specs.inner.Solving.{AreLeastNumbers, IsStartingFlow};
+ghost use Rattle.potentials.specs.inner.Solvers.{HasChoiceMore, IsBestOn, IsFoundFlow, IsSame};
 ghost use Rattle.potentials.specs.inner.Solvers.{IsSolver};
 
 use crate::begin::{from_before, from_start, least_numbers};
-use crate::reached::{Bounded, Level, Reached};
+use crate::reached::{Bounded, FoundFlow, Level};
 use compact_types::{Flow, Items, NoMemory};
 use diff_flow::Network;
 use shape_graphs::DiffGraph;
@@ -22,7 +22,7 @@ use std::mem::replace;
 #[derive(Drop)]
 pub(crate) struct AxisSolver {
     pub(crate) network: Network,
-    pub(crate) reached: Reached,
+    pub(crate) reached: FoundFlow,
     /// One level for each arc of a choice that was added.
     pub(crate) levels: Items<Level>,
 }
@@ -40,7 +40,7 @@ impl AxisSolver {
         };
         Ok(Some(AxisSolver {
             network,
-            reached: Reached::nothing(),
+            reached: FoundFlow::nothing(),
             levels: Items::new(alloc),
         }))
     }
@@ -58,7 +58,7 @@ impl AxisSolver {
         let Some(walks) = self.network.add(alloc, graph)? else {
             return Ok(false);
         };
-        let reached = replace(&mut self.reached, Reached::nothing());
+        let reached = replace(&mut self.reached, FoundFlow::nothing());
         self.levels.push(Level { walks, reached })?;
         Ok(true)
     }
@@ -66,7 +66,7 @@ impl AxisSolver {
     /// Follows its graph, whose last arc, that of a choice, was taken away.
     pub(crate) fn take_away(&mut self, graph: &DiffGraph)
         requires solver { IsSolver self.old }
-        requires fewer { IsOneMore graph.now self.old.network }
+        requires fewer { HasOneMoreArc graph.now self.old.network }
         requires some { 0 < length self.old.levels }
         ensures solver { IsSolver self.new }
         ensures network { self.new.network ≡ graph.now }
@@ -91,7 +91,7 @@ impl AxisSolver {
     ) -> Result<(), NoMemory>
         requires solver { IsSolver self.old }
         requires graph { IsSame self.old.network graph.now }
-        requires start { MatchOption start (Unit {0}) (λ flow. IsBegun graph.now flow.now) }
+        requires start { MatchOption start (Unit {0}) (λ flow. IsStartingFlow graph.now flow.now) }
         ensures solver { OnOk result (IsSolver self.new) }
         ensures network { self.new.network ≡ self.old.network }
         ensures levels { self.new.levels ≡ self.old.levels }
@@ -110,11 +110,11 @@ impl AxisSolver {
         alloc: Global,
         graph: &DiffGraph,
         start: Option<&Flow>,
-    ) -> Result<Reached, NoMemory>
+    ) -> Result<FoundFlow, NoMemory>
         requires solver { IsSolver self.now }
         requires graph { IsSame self.now.network graph.now }
-        requires start { MatchOption start (Unit {0}) (λ flow. IsBegun graph.now flow.now) }
-        ensures reached { IfOk result (IsReached self.now.network) }
+        requires start { MatchOption start (Unit {0}) (λ flow. IsStartingFlow graph.now flow.now) }
+        ensures reached { IfOk result (IsFoundFlow self.now.network) }
         ensures best { IfOk result (λ reached. IsSome reached.best) }
     {
         if let Some(level) = self.levels.as_slice().last() {

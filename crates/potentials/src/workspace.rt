@@ -8,7 +8,7 @@ ghost use Rattle.compact_types.specs.declared.places.Axis.TheVariants as axis;
 ghost use Rattle.bars.specs.Sides.{side_axis};
 ghost use Rattle.bars.specs.Solutions.{Fit};
 ghost use Rattle.shape_graphs.specs.Paths.{HasCycle, IsCycle};
-ghost use Rattle.potentials.specs.inner.Solvers.{IsFollowed, IsPushed, IsSolver, IsWorkspaceOf};
+ghost use Rattle.potentials.specs.inner.Solvers.{HasFollowed, IsPushed, IsSolver, IsWorkspaceOf};
 
 use crate::solver::AxisSolver;
 use bars::Bars;
@@ -63,7 +63,7 @@ impl FlowWorkspace {
         requires workspace { IsWorkspaceOf bars.now self.old }
         requires fit { Fit bars.now extension.now.choices }
         ensures workspace { OnOk result (IsWorkspaceOf bars.now self.new) }
-        ensures followed { IfOk result (IsFollowed bars.now extension.now.choices self.new) }
+        ensures followed { IfOk result (HasFollowed bars.now extension.now.choices self.new) }
     {
         let choices = extension.choices.as_slice();
         let kept = common_front(self.graphs.choices.as_slice(), choices);

@@ -21,7 +21,7 @@ pub record IsTaken (words into from : ℕ) (old new : List ℕ) : Type 0 where
       IsSet words new into c ↔ (IsSet words old into c ⊎ (IsSet words old from c ⊎ (c ≡ from)))
 
 -- a vector of words has the bits of those from a on, and of those from b on
-pub record IsJoined (words : List ℕ) (a b : ℕ) (vector : List ℕ) : Type 0 where
+pub record HasBitsOfBoth (words : List ℕ) (a b : ℕ) (vector : List ℕ) : Type 0 where
   pub long : length vector ≡ LANES
   pub lanes : (k : ℕ) → k < LANES → slice_index vector k ≡ bit_or (slice_index words (a + k)) (slice_index words (b + k))
 

@@ -3,7 +3,7 @@
 ghost use Rattle.std.specs.Prelude.{◌≡◌, ◌↔◌, ◌⊎◌, ℕ, ◌+◌, ◌*◌, ◌<◌, ◌≤◌, length, slice_index};
 ghost use Rattle.std.specs.Prelude.{bit_or, IsTrue};
 ghost use Rattle.std.specs.Int.{bit_at};
-ghost use Rattle.reach_rows.specs.Bits.{IsSet, IsTaken, IsJoined};
+ghost use Rattle.reach_rows.specs.Bits.{IsSet, IsTaken, HasBitsOfBoth};
 ghost use Rattle.reach_rows.specs.declared.bits.TheConstants.{LANES};
 
 use std::simd::Simd;
@@ -75,7 +75,7 @@ fn or_vector(bits: &mut [u64], into: usize, from: usize, done: usize)
 fn joined(bits: &[u64], a: usize, b: usize) -> Simd<u64, LANES>
     requires first { a + LANES ≤ length bits.now }
     requires second { b + LANES ≤ length bits.now }
-    ensures { IsJoined bits.now a b result }
+    ensures { HasBitsOfBoth bits.now a b result }
 {
     Simd::from_slice(&bits[a..]) | Simd::from_slice(&bits[b..])
 }

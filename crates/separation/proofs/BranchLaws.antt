@@ -14,11 +14,11 @@ use Rattle.shape_graphs.specs.Measures.{IsLeastKey}
 use Rattle.shape_graphs.specs.Paths.{HasPath}
 use Rattle.shape_graphs.proofs.Laws.{one_least, path_decided}
 use Rattle.separation.specs.Branching.{IsBranchPair, IsNotAfter}
-use Rattle.separation.specs.Reaching.{ClosesCycle, HasOpenSides, IsOpen}
+use Rattle.separation.specs.Reaching.{ClosesCycle, HasOpenSides, IsSideOpen}
 
 -- whether a side is open is decided
 module _ (shape : Shape) (choices : List Choice) (s t : ℕ) where
-  cycle_decided : (side : ℕ) → ClosesCycle shape choices s t side ⊎ IsOpen shape choices s t side
+  cycle_decided : (side : ℕ) → ClosesCycle shape choices s t side ⊎ IsSideOpen shape choices s t side
   cycle_decided side =
       by_loop (cases_eq (side_arc shape s t side).to (side_arc shape s t side).from)
       (path_decided (arcs_of (side_axis side) shape choices) (side_arc shape s t side).to (side_arc shape s t side).from)
@@ -26,7 +26,7 @@ module _ (shape : Shape) (choices : List Choice) (s t : ℕ) where
       by_loop : ((side_arc shape s t side).to ≡ (side_arc shape s t side).from) ⊎ ((side_arc shape s t side).to ≡ (side_arc shape s t side).from → ⊥) →
           HasPath (arcs_of (side_axis side) shape choices) (side_arc shape s t side).to (side_arc shape s t side).from
           ⊎ (HasPath (arcs_of (side_axis side) shape choices) (side_arc shape s t side).to (side_arc shape s t side).from → ⊥) →
-          ClosesCycle shape choices s t side ⊎ IsOpen shape choices s t side
+          ClosesCycle shape choices s t side ⊎ IsSideOpen shape choices s t side
       by_loop (inl same) path = inl (inl same)
       by_loop (inr other) (inl path) = inl (inr path)
       by_loop (inr other) (inr none) = inr (λ closes. by_case closes)
@@ -35,10 +35,10 @@ module _ (shape : Shape) (choices : List Choice) (s t : ℕ) where
           by_case (inl same) = other same
           by_case (inr path) = none path
 
-  some_flag : (side : ℕ) → (flag : Bool) × ((flag ≡ true) ↔ IsOpen shape choices s t side)
+  some_flag : (side : ℕ) → (flag : Bool) × ((flag ≡ true) ↔ IsSideOpen shape choices s t side)
   some_flag side = by_case (cycle_decided side)
     where
-      by_case : ClosesCycle shape choices s t side ⊎ IsOpen shape choices s t side → (flag : Bool) × ((flag ≡ true) ↔ IsOpen shape choices s t side)
+      by_case : ClosesCycle shape choices s t side ⊎ IsSideOpen shape choices s t side → (flag : Bool) × ((flag ≡ true) ↔ IsSideOpen shape choices s t side)
       by_case (inl closes) = (false, (λ is. absurd (true≢false (sym is)), λ is_open. absurd (is_open closes)))
       by_case (inr is_open) = (true, (λ is. is_open, λ is. refl))
 
@@ -49,7 +49,7 @@ module _ (shape : Shape) (choices : List Choice) (s t : ℕ) where
       flags : List Bool
       flags = (some_flag 0).0 ∷ (some_flag 1).0 ∷ (some_flag 2).0 ∷ (some_flag 3).0 ∷ []
 
-      each : (side : ℕ) → side < 4 → (slice_index_or flags side false ≡ true) ↔ IsOpen shape choices s t side
+      each : (side : ℕ) → side < 4 → (slice_index_or flags side false ≡ true) ↔ IsSideOpen shape choices s t side
       each zero below = (some_flag 0).1
       each (suc zero) below = (some_flag 1).1
       each (suc (suc zero)) below = (some_flag 2).1

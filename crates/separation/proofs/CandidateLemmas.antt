@@ -14,14 +14,14 @@ use Rattle.bars.specs.Segments.{segment_count, ShareVertex}
 use Rattle.bars.specs.Solutions.{HasDrawing}
 use Rattle.bars.proofs.Laws.{low_vertex, high_vertex, low_at, high_at, bounds_from_on}
 use Rattle.separation.specs.declared.candidates.Candidate.{Candidate}
-use Rattle.separation.specs.declared.extents.Extent.{Extent}
+use Rattle.separation.specs.declared.extents.SegmentExtent.{SegmentExtent}
 use Rattle.separation.specs.Branching.{IsNotAfter}
 use Rattle.separation.specs.Meetings.{ShareAPoint}
 use Rattle.separation.specs.Reaching.{HasOpenSides}
 use Rattle.separation.specs.inner.Extents.{IsExtent, IsExtentAlong, overlap, turned_along}
-use Rattle.separation.specs.inner.Candidates.{comes_before, first_of, IsCandidate, Covers}
+use Rattle.separation.specs.inner.Candidates.{comes_before, first_candidate, IsCandidate, Covers}
 use Rattle.separation.specs.inner.Sweeps.{AreThese}
-use Rattle.separation.proofs.Centre as centre
+use Rattle.separation.proofs.CompleteExtensions as centre
 use Rattle.separation.proofs.EndLemmas.{overlap_holds, overlap_from}
 
 -- the order of pairs by their open sides and then by list order
@@ -110,7 +110,7 @@ module _ (shape : Shape) (choices : List Choice) where
           sym (fill_by_all (λ k. slice_index_or second.0 k false) second.0 4 false second.1.four (λ k below. refl))
 
   -- the first of the best so far and one more covers what the best so far covers
-  pub first_keeps : (b c : Candidate) (s t : ℕ) → Covers shape choices b s t → Covers shape choices (first_of b c) s t
+  pub first_keeps : (b c : Candidate) (s t : ℕ) → Covers shape choices b s t → Covers shape choices (first_candidate b c) s t
   first_keeps b c s t covers = by_test (cases_Bool (comes_before c b))
     where
       by_test : (comes_before c b ≡ true) ⊎ (comes_before c b ≡ false) → Covers shape choices (if comes_before c b then c else b) s t
@@ -124,7 +124,7 @@ module _ (shape : Shape) (choices : List Choice) where
   covers_itself c its n has = inr (one_count c.s c.t c.«open» n its has, inr (refl, omega arith))
 
   -- and the first of the best so far and one more covers the one more
-  pub first_covers : (b c : Candidate) → HasOpenSides shape choices c.s c.t c.«open» → Covers shape choices (first_of b c) c.s c.t
+  pub first_covers : (b c : Candidate) → HasOpenSides shape choices c.s c.t c.«open» → Covers shape choices (first_candidate b c) c.s c.t
   first_covers b c its = by_test (cases_Bool (comes_before c b))
     where
       by_test : (comes_before c b ≡ true) ⊎ (comes_before c b ≡ false) → Covers shape choices (if comes_before c b then c else b) c.s c.t
@@ -136,7 +136,7 @@ module _ (shape : Shape) (choices : List Choice) where
 
   -- it is a candidate, if both are
   pub first_found : (places : Places) (b c : Candidate) → IsCandidate shape choices places c → IsCandidate shape choices places b →
-      IsCandidate shape choices places (first_of b c)
+      IsCandidate shape choices places (first_candidate b c)
   first_found places b c is found = by_test (cases_Bool (comes_before c b))
     where
       by_test : (comes_before c b ≡ true) ⊎ (comes_before c b ≡ false) → IsCandidate shape choices places (if comes_before c b then c else b)
@@ -144,20 +144,20 @@ module _ (shape : Shape) (choices : List Choice) where
       by_test (inr after) = subst (λ (o : Candidate). IsCandidate shape choices places o) (sym (cond-false (comes_before c b) c b after)) found
 
 -- extents that overlap do so once both are turned
-overlap_turned : (a b : Extent) → overlap a b ≡ true → overlap (turned_along Y a) (turned_along Y b) ≡ true
+overlap_turned : (a b : SegmentExtent) → overlap a b ≡ true → overlap (turned_along Y a) (turned_along Y b) ≡ true
 overlap_turned a b holds =
     let o = overlap_holds a b holds in
     overlap_from (turned_along Y a) (turned_along Y b) (record { x_first = o.y_first; x_second = o.y_second; y_first = o.x_first; y_second = o.x_second })
 
 module _ (shape : Shape) (drawing : HasDrawing shape) (places : Places) (ways : HasWays shape places) where
   -- the numbers of an extent are the bounds of its segment
-  pub record AreBounds (e : Extent) (within : e.segment < segment_count shape) : Type 0 where
+  pub record AreBounds (e : SegmentExtent) (within : e.segment < segment_count shape) : Type 0 where
     pub left : low_at shape e.segment within drawing places ways X ≡ e.left
     pub right : high_at shape e.segment within drawing places ways X ≡ e.right
     pub low : low_at shape e.segment within drawing places ways Y ≡ e.low
     pub high : high_at shape e.segment within drawing places ways Y ≡ e.high
 
-  pub bounds_of : (e : Extent) (is : IsExtent shape places e) → AreBounds e is.within
+  pub bounds_of : (e : SegmentExtent) (is : IsExtent shape places e) → AreBounds e is.within
   bounds_of e is = record {
     left = (let u = low_vertex shape e.segment is.within drawing X in is.left u.0 u.1.is_vertex u.2);
     right = (let u = high_vertex shape e.segment is.within drawing X in is.right u.0 u.1.is_vertex u.2);
@@ -166,7 +166,7 @@ module _ (shape : Shape) (drawing : HasDrawing shape) (places : Places) (ways : 
   }
 
   -- segments whose extents overlap share a point
-  pub share_from_extents : (a b : Extent) → IsExtent shape places a → IsExtent shape places b → overlap a b ≡ true → ShareAPoint shape places a.segment b.segment
+  pub share_from_extents : (a b : SegmentExtent) → IsExtent shape places a → IsExtent shape places b → overlap a b ≡ true → ShareAPoint shape places a.segment b.segment
   share_from_extents a b is_a is_b holds =
       let o = overlap_holds a b holds in
       let x_first = o.x_first in
@@ -182,7 +182,7 @@ module _ (shape : Shape) (drawing : HasDrawing shape) (places : Places) (ways : 
       (record { first = omega (arith, ints, y_first, bo, ah); second = omega (arith, ints, y_second, ao, bh) })
 
   -- the extents of segments that share a point overlap
-  pub overlap_from_share : (a b : Extent) → IsExtent shape places a → IsExtent shape places b → ShareAPoint shape places a.segment b.segment → overlap a b ≡ true
+  pub overlap_from_share : (a b : SegmentExtent) → IsExtent shape places a → IsExtent shape places b → ShareAPoint shape places a.segment b.segment → overlap a b ≡ true
   overlap_from_share a b is_a is_b share =
       let first = bounds_of a is_a in
       let second = bounds_of b is_b in
@@ -200,7 +200,7 @@ module _ (shape : Shape) (drawing : HasDrawing shape) (places : Places) (ways : 
       })
 
   -- the same of a pair of them, in one order or the other
-  pub share_of_these : (a b : Extent) (s t : ℕ) → IsExtent shape places a → IsExtent shape places b → AreThese a.segment b.segment s t →
+  pub share_of_these : (a b : SegmentExtent) (s t : ℕ) → IsExtent shape places a → IsExtent shape places b → AreThese a.segment b.segment s t →
       (overlap a b ≡ true → ShareAPoint shape places s t) × (ShareAPoint shape places s t → overlap a b ≡ true)
   share_of_these a b s t is_a is_b (inl these) = (
     λ holds. subst (λ (x : ℕ). ShareAPoint shape places x t) (sym these.0) (subst (λ (x : ℕ). ShareAPoint shape places a.segment x) (sym these.1) (share_from_extents a b is_a is_b holds)),
@@ -217,7 +217,7 @@ module _ (shape : Shape) (drawing : HasDrawing shape) (places : Places) (ways : 
   )
 
   -- the same along either axis
-  pub share_along : (axis : Axis) (a b : Extent) (s t : ℕ) → IsExtentAlong axis shape places a → IsExtentAlong axis shape places b → AreThese a.segment b.segment s t →
+  pub share_along : (axis : Axis) (a b : SegmentExtent) (s t : ℕ) → IsExtentAlong axis shape places a → IsExtentAlong axis shape places b → AreThese a.segment b.segment s t →
       (overlap a b ≡ true → ShareAPoint shape places s t) × (ShareAPoint shape places s t → overlap a b ≡ true)
   share_along X a b s t is_a is_b these = share_of_these a b s t is_a is_b these
   share_along Y a b s t is_a is_b these =

@@ -15,14 +15,14 @@ use Rattle.bars.specs.Sides.{StandsBefore, SideHolds}
 use Rattle.bars.specs.Solutions.{HasDrawing, Fit, IsChoice, Solves, choice_at, with_choice}
 use Rattle.bars.proofs.Laws.{stands_before, nodes_apart}
 use Rattle.shape_graphs.specs.Separation.{IsSeparated, IsComplete}
-use Rattle.separation.specs.declared.extents.Extent.{Extent}
+use Rattle.separation.specs.declared.extents.SegmentExtent.{SegmentExtent}
 use Rattle.separation.specs.declared.sides.Reach.{Reach}
 use Rattle.compact_types.specs.Orders.{IsPairBefore}
-use Rattle.separation.specs.Extensions.{AreBefore, IsLeastSide, IsSettled, IsExtensionOf}
+use Rattle.separation.specs.Extensions.{AreBefore, IsLeastSide, IsPairSettled, IsExtensionOf}
 use Rattle.separation.specs.Reaching.{IsReachOf}
 use Rattle.separation.specs.inner.Choosing.{AreChosen, AreLeast, least_side}
 use Rattle.separation.specs.inner.Extents.{extent_at, IsExtent, AreExtents}
-use Rattle.separation.proofs.Centre.{side_in_drawing}
+use Rattle.separation.proofs.CompleteExtensions.{side_in_drawing}
 use Rattle.separation.proofs.CandidateLemmas.{bounds_of}
 use Rattle.separation.proofs.ReachLemmas.{separated_stays, chosen_separated}
 
@@ -85,7 +85,7 @@ module _ (shape : Shape) (reach : Reach) (choices : List Choice) (s t n : ℕ) (
     settled = λ u v pair before. settled u v pair (before_or_here u v s t n next before);
   }
     where
-      here : IsPair shape s t → (j : ℕ) × IsSettled shape choices s t j
+      here : IsPair shape s t → (j : ℕ) × IsPairSettled shape choices s t j
       here pair = (
         length choices,
         record {
@@ -95,11 +95,11 @@ module _ (shape : Shape) (reach : Reach) (choices : List Choice) (s t n : ℕ) (
         },
       )
 
-      settled : (u v : ℕ) → IsPair shape u v → IsPairBefore u v s t ⊎ ((u ≡ s) × (v ≡ t)) → (j : ℕ) × IsSettled shape choices u v j
+      settled : (u v : ℕ) → IsPair shape u v → IsPairBefore u v s t ⊎ ((u ≡ s) × (v ≡ t)) → (j : ℕ) × IsPairSettled shape choices u v j
       settled u v pair (inl before) = chosen.settled u v pair before
       settled u v pair (inr same) =
-          subst (λ (x : ℕ). IsPair shape x v → (j : ℕ) × IsSettled shape choices x v j) (sym same.0)
-          (subst (λ (x : ℕ). IsPair shape s x → (j : ℕ) × IsSettled shape choices s x j) (sym same.1) here) pair
+          subst (λ (x : ℕ). IsPair shape x v → (j : ℕ) × IsPairSettled shape choices x v j) (sym same.0)
+          (subst (λ (x : ℕ). IsPair shape s x → (j : ℕ) × IsPairSettled shape choices s x j) (sym same.1) here) pair
 
   -- a pair that is not is chosen
   pub one_chosen : (after : Reach) (side : ℕ) → IsPair shape s t → side < 4 → (IsSeparated shape choices s t → ⊥) →
@@ -121,7 +121,7 @@ module _ (shape : Shape) (reach : Reach) (choices : List Choice) (s t n : ℕ) (
       long : length (with_choice choices s t side) ≡ length choices + 1
       long = with_length choices s t side
 
-      still : (u v j : ℕ) → IsSettled shape choices u v j → IsSettled shape (with_choice choices s t side) u v j
+      still : (u v j : ℕ) → IsPairSettled shape choices u v j → IsPairSettled shape (with_choice choices s t side) u v j
       still u v j is = record {
         turn = (let turn = is.turn in let l = long in omega (arith, turn, l));
         before = before_with choices s t side j u v is.turn is.before;
@@ -138,7 +138,7 @@ module _ (shape : Shape) (reach : Reach) (choices : List Choice) (s t n : ℕ) (
             ap (λ (choice : Choice). choice.t) (with_before choices s t side j taken.0) ∙ taken.2,
           )
 
-      here : (j : ℕ) × IsSettled shape (with_choice choices s t side) s t j
+      here : (j : ℕ) × IsPairSettled shape (with_choice choices s t side) s t j
       here = (
         length choices,
         record {
@@ -152,11 +152,11 @@ module _ (shape : Shape) (reach : Reach) (choices : List Choice) (s t n : ℕ) (
         },
       )
 
-      settled : (u v : ℕ) → IsPair shape u v → IsPairBefore u v s t ⊎ ((u ≡ s) × (v ≡ t)) → (j : ℕ) × IsSettled shape (with_choice choices s t side) u v j
+      settled : (u v : ℕ) → IsPair shape u v → IsPairBefore u v s t ⊎ ((u ≡ s) × (v ≡ t)) → (j : ℕ) × IsPairSettled shape (with_choice choices s t side) u v j
       settled u v pair (inl before) = let is = chosen.settled u v pair before in (is.0, still u v is.0 is.1)
       settled u v pair (inr same) =
-          subst (λ (x : ℕ). (j : ℕ) × IsSettled shape (with_choice choices s t side) x v j) (sym same.0)
-          (subst (λ (x : ℕ). (j : ℕ) × IsSettled shape (with_choice choices s t side) s x j) (sym same.1) here)
+          subst (λ (x : ℕ). (j : ℕ) × IsPairSettled shape (with_choice choices s t side) x v j) (sym same.0)
+          (subst (λ (x : ℕ). (j : ℕ) × IsPairSettled shape (with_choice choices s t side) s x j) (sym same.1) here)
 
 -- after all pairs of s come those of the next
 pub next_row : (shape : Shape) (reach : Reach) (choices : List Choice) (s n t : ℕ) → n ≡ s + 1 → t ≤ n + 1 → AreChosen shape reach choices s (segment_count shape) → AreChosen shape reach choices n t
@@ -247,7 +247,7 @@ extension_fits shape places choices few is = record { few = few_chosen shape cho
 pub extension_complete : (shape : Shape) (places : Places) (choices : List Choice) → IsExtensionOf shape places choices → IsComplete shape choices
 extension_complete shape places choices is s t pair = let settled = is.settled s t pair in by_either settled.0 settled.1 settled.1.either
   where
-    by_either : (j : ℕ) → IsSettled shape choices s t j → IsSeparated shape (take j choices) s t ⊎ ((j < length choices) × ((choice_at choices j).s ≡ s) × ((choice_at choices j).t ≡ t)) → IsSeparated shape choices s t
+    by_either : (j : ℕ) → IsPairSettled shape choices s t j → IsSeparated shape (take j choices) s t ⊎ ((j < length choices) × ((choice_at choices j).s ≡ s) × ((choice_at choices j).t ≡ t)) → IsSeparated shape choices s t
     by_either j settled (inl separated) = separated_stays shape choices j s t separated
     by_either j settled (inr taken) =
         subst (λ (x : ℕ). IsSeparated shape choices x t) taken.1
@@ -262,7 +262,7 @@ extension_solved shape places choices drawing is =
 pub least_with : (shape : Shape) (places : Places) (choices : List Choice) (s t side : ℕ) → IsLeastSide shape places s t side → AreLeast shape places choices → AreLeast shape places (with_choice choices s t side)
 least_with shape places choices s t side is are = each_with choices s t side (λ j choice. IsLeastSide shape places choice.s choice.t choice.side) are is
 
-module _ (shape : Shape) (places : Places) (drawing : IsDrawing shape places) (a b : Extent) (is_a : IsExtent shape places a) (is_b : IsExtent shape places b) where
+module _ (shape : Shape) (places : Places) (drawing : IsDrawing shape places) (a b : SegmentExtent) (is_a : IsExtent shape places a) (is_b : IsExtent shape places b) where
   abbrev has_drawing : HasDrawing shape
   has_drawing = (places, drawing)
 
@@ -304,7 +304,7 @@ module _ (shape : Shape) (places : Places) (drawing : IsDrawing shape places) (a
       omega (arith, ints, high, low, l, apart)
 
 -- the least side of two extents is that of their segments
-pub least_side_is : (shape : Shape) (places : Places) (drawing : IsDrawing shape places) (a b : Extent) → IsExtent shape places a → IsExtent shape places b → IsPair shape a.segment b.segment →
+pub least_side_is : (shape : Shape) (places : Places) (drawing : IsDrawing shape places) (a b : SegmentExtent) → IsExtent shape places a → IsExtent shape places b → IsPair shape a.segment b.segment →
     IsLeastSide shape places a.segment b.segment (least_side a b)
 least_side_is shape places drawing a b is_a is_b pair = by_west (cases_Bool (int_lt a.right b.left))
   where
@@ -361,7 +361,7 @@ least_side_is shape places drawing a b is_a is_b pair = by_west (cases_Bool (int
         (by_east no_west (cases_Bool (int_lt b.right a.left)))
 
 -- the least side of the extents at two places
-pub least_at : (shape : Shape) (places : Places) (extents : List Extent) (s t side : ℕ) → IsDrawing shape places → AreExtents shape places extents →
+pub least_at : (shape : Shape) (places : Places) (extents : List SegmentExtent) (s t side : ℕ) → IsDrawing shape places → AreExtents shape places extents →
     ((k : ℕ) → k < length extents → (extent_at extents k).segment ≡ k) → s < length extents → t < length extents → IsPair shape s t →
     side ≡ least_side (extent_at extents s) (extent_at extents t) → IsLeastSide shape places s t side
 least_at shape places extents s t side drawing are own s_within t_within pair is =

@@ -19,7 +19,7 @@ use Rattle.bars.specs.Segments.{segment_count, node_of, node_count, low_node, hi
 use Rattle.bars.specs.Lines.{line_count}
 use Rattle.bars.specs.Solutions.{HasDrawing}
 use Rattle.bars.proofs.Laws.{low_below, high_below, line_below, level_node, few_lines, few_segments}
-use Rattle.separation.specs.declared.extents.Extent.{Extent}
+use Rattle.separation.specs.declared.extents.SegmentExtent.{SegmentExtent}
 use Rattle.shape_graphs.specs.Flows.{number_at}
 use Rattle.separation.specs.inner.Extents.{nowhere, extent_at, IsAtNode, AreAtNodes, IsExtent, BeginInOrder, ArePut, HasRoom, meet_in_x, meet_in_y, overlap, turned_along, AreTurned, AreExtents, IsExtentAlong, AreExtentsAlong}
 
@@ -40,13 +40,13 @@ from_ranks Equal x y same not_less = omega (arith, ints, same)
 from_ranks Greater x y more not_less = omega (arith, ints, more)
 
 -- extents sorted by where they begin
-pub order_from_sort : (extents : List Extent) → IsSortedByKey (λ (extent : Extent). extent.left) int_cmp extents → BeginInOrder extents
+pub order_from_sort : (extents : List SegmentExtent) → IsSortedByKey (λ (extent : SegmentExtent). extent.left) int_cmp extents → BeginInOrder extents
 order_from_sort extents sorted a b before within =
     from_ranks (int_cmp (extent_at extents b).left (extent_at extents a).left) _ _ (int_ranks (extent_at extents b).left (extent_at extents a).left)
-    (sorted_far (λ (x y : Extent). is_lt (int_cmp x.left y.left)) (ranks_by int_cmp_total (λ (extent : Extent). extent.left)) extents sorted a b nowhere (omega arith) within)
+    (sorted_far (λ (x y : SegmentExtent). is_lt (int_cmp x.left y.left)) (ranks_by int_cmp_total (λ (extent : SegmentExtent). extent.left)) extents sorted a b nowhere (omega arith) within)
 
 -- neither extent ends before the other begins, along both axes
-pub record Overlap (a b : Extent) : Type 0 where
+pub record Overlap (a b : SegmentExtent) : Type 0 where
   pub x_first : b.left ≤ℤ a.right
   pub x_second : a.left ≤ℤ b.right
   pub y_first : b.low ≤ℤ a.high
@@ -59,14 +59,14 @@ module _ where
   to_le : (x y : ℤ) → x ≤ℤ y → int_le x y ≡ true
   to_le x y le = grind (arith, ints)
 
-pub overlap_holds : (a b : Extent) → overlap a b ≡ true → Overlap a b
+pub overlap_holds : (a b : SegmentExtent) → overlap a b ≡ true → Overlap a b
 overlap_holds a b holds =
     let both = and_parts (meet_in_x a b) (meet_in_y a b) holds in
     let x = and_parts (int_le b.left a.right) (int_le a.left b.right) both.0 in
     let y = and_parts (int_le b.low a.high) (int_le a.low b.high) both.1 in
     record { x_first = from_le _ _ x.0; x_second = from_le _ _ x.1; y_first = from_le _ _ y.0; y_second = from_le _ _ y.1 }
 
-pub overlap_from : (a b : Extent) → Overlap a b → overlap a b ≡ true
+pub overlap_from : (a b : SegmentExtent) → Overlap a b → overlap a b ≡ true
 overlap_from a b is =
     and_from (meet_in_x a b) (meet_in_y a b)
     (and_from (int_le b.left a.right) (int_le a.left b.right) (to_le _ _ is.x_first) (to_le _ _ is.x_second))
@@ -111,34 +111,34 @@ room_from shape room segments columns rows = record { segments = segments; nodes
     by_axis Y = rows
 
 -- an extent that is turned twice is as before, and has the same segment
-turned_twice : (axis : Axis) (e : Extent) → turned_along axis (turned_along axis e) ≡ e
+turned_twice : (axis : Axis) (e : SegmentExtent) → turned_along axis (turned_along axis e) ≡ e
 turned_twice X e = refl
 turned_twice Y e = refl
 
-segment_turned : (axis : Axis) (e : Extent) → (turned_along axis e).segment ≡ e.segment
+segment_turned : (axis : Axis) (e : SegmentExtent) → (turned_along axis e).segment ≡ e.segment
 segment_turned X e = refl
 segment_turned Y e = refl
 
-pub segments_turned : (axis : Axis) (before after : List Extent) (n : ℕ) → length before ≡ n → AreTurned axis before after →
+pub segments_turned : (axis : Axis) (before after : List SegmentExtent) (n : ℕ) → length before ≡ n → AreTurned axis before after →
     ((s : ℕ) → s < n → (extent_at before s).segment ≡ s) → (s : ℕ) → s < n → (extent_at after s).segment ≡ s
 segments_turned axis before after n fits turned own s within =
-    ap (λ (e : Extent). e.segment) (turned s (omega (arith, within, fits))) ∙ segment_turned axis (extent_at before s) ∙ own s within
+    ap (λ (e : SegmentExtent). e.segment) (turned s (omega (arith, within, fits))) ∙ segment_turned axis (extent_at before s) ∙ own s within
 
-pub extents_turned : (axis : Axis) (shape : Shape) (places : Places) (before after : List Extent) → length after ≡ length before → AreTurned axis before after →
+pub extents_turned : (axis : Axis) (shape : Shape) (places : Places) (before after : List SegmentExtent) → length after ≡ length before → AreTurned axis before after →
     AreExtents shape places before → AreExtentsAlong axis shape places after
 extents_turned axis shape places before after fits turned are k within =
-    subst (λ (e : Extent). IsExtentAlong axis shape places e) (sym (turned k inside))
-    (subst (λ (e : Extent). IsExtent shape places e) (sym (turned_twice axis (extent_at before k))) (are k inside))
+    subst (λ (e : SegmentExtent). IsExtentAlong axis shape places e) (sym (turned k inside))
+    (subst (λ (e : SegmentExtent). IsExtent shape places e) (sym (turned_twice axis (extent_at before k))) (are k inside))
   where
     inside : k < length before
     inside = omega (arith, within, fits)
 
 -- the extents before place i are turned, and the others are not
-pub record AreTurnedTo (i : ℕ) (before now : List Extent) : Type 0 where
+pub record AreTurnedTo (i : ℕ) (before now : List SegmentExtent) : Type 0 where
   pub done : (k : ℕ) → k < i → k < length before → extent_at now k ≡ turned_along Y (extent_at before k)
   pub rest : (k : ℕ) → i ≤ k → extent_at now k ≡ extent_at before k
 
-pub turned_one_more : (i n : ℕ) (before now : List Extent) (e : Extent) → n ≡ i + 1 → i < length now → e ≡ turned_along Y (extent_at now i) → AreTurnedTo i before now →
+pub turned_one_more : (i n : ℕ) (before now : List SegmentExtent) (e : SegmentExtent) → n ≡ i + 1 → i < length now → e ≡ turned_along Y (extent_at now i) → AreTurnedTo i before now →
     AreTurnedTo n before (set now i e)
 turned_one_more i n before now e next inside is turned = record { done = λ k less within. by_order k within less (cases_lt k i); rest = others }
   where
@@ -155,7 +155,7 @@ turned_one_more i n before now e next inside is turned = record { done = λ k le
         get_or-set_other now i k e nowhere (let other : k ≡ i → ⊥ = λ same. omega (arith, past, same, next) in other) ∙ turned.rest k (omega (arith, past, next))
 
 -- one extent more
-pub put_one_more : (shape : Shape) (places : Places) (n m : ℕ) (extents : List Extent) (e : Extent) → n < length extents → m ≡ n + 1 → e.segment ≡ n →
+pub put_one_more : (shape : Shape) (places : Places) (n m : ℕ) (extents : List SegmentExtent) (e : SegmentExtent) → n < length extents → m ≡ n + 1 → e.segment ≡ n →
     (HasWays shape places → IsExtent shape places e) → ArePut shape places n extents → ArePut shape places m (set extents n e)
 put_one_more shape places n m extents e inside next is its put = record {
   segment = λ k within. segment_at k (cases_lt k n) within;
@@ -169,9 +169,9 @@ put_one_more shape places n m extents e inside next is its put = record {
     here k after within = let same : k ≡ n = omega (arith, after, within, next) in ap (extent_at (set extents n e)) same ∙ get_or-set_same extents n e nowhere inside
 
     segment_at : (k : ℕ) → (k < n) ⊎ (n ≤ k) → k < m → (extent_at (set extents n e) k).segment ≡ k
-    segment_at k (inl before) within = ap (λ (x : Extent). x.segment) (earlier k before) ∙ put.segment k before
-    segment_at k (inr after) within = ap (λ (x : Extent). x.segment) (here k after within) ∙ is ∙ omega (arith, after, within, next)
+    segment_at k (inl before) within = ap (λ (x : SegmentExtent). x.segment) (earlier k before) ∙ put.segment k before
+    segment_at k (inr after) within = ap (λ (x : SegmentExtent). x.segment) (here k after within) ∙ is ∙ omega (arith, after, within, next)
 
     extent_at_place : HasWays shape places → (k : ℕ) → (k < n) ⊎ (n ≤ k) → k < m → IsExtent shape places (extent_at (set extents n e) k)
-    extent_at_place ways k (inl before) within = subst (λ (x : Extent). IsExtent shape places x) (sym (earlier k before)) (put.extent ways k before)
-    extent_at_place ways k (inr after) within = subst (λ (x : Extent). IsExtent shape places x) (sym (here k after within)) (its ways)
+    extent_at_place ways k (inl before) within = subst (λ (x : SegmentExtent). IsExtent shape places x) (sym (earlier k before)) (put.extent ways k before)
+    extent_at_place ways k (inr after) within = subst (λ (x : SegmentExtent). IsExtent shape places x) (sym (here k after within)) (its ways)

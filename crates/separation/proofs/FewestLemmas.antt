@@ -5,25 +5,25 @@ use Rattle.compact_types.specs.declared.plan.Shape.{Shape}
 use Rattle.compact_types.specs.declared.search.Choice.{Choice}
 use Rattle.bars.specs.Segments.{IsPair}
 use Rattle.separation.specs.declared.candidates.Candidate.{Candidate}
-use Rattle.separation.specs.declared.extents.Extent.{Extent}
-use Rattle.separation.specs.declared.sweep.Meeting.{Meeting}
+use Rattle.separation.specs.declared.extents.SegmentExtent.{SegmentExtent}
+use Rattle.separation.specs.declared.sweep.SharingPair.{SharingPair}
 use Rattle.separation.specs.declared.sweep.Position.{Position}
 use Rattle.separation.specs.Meetings.{ShareAPoint}
 use Rattle.separation.specs.Reaching.{HasOpenSides}
-use Rattle.separation.specs.inner.Candidates.{first_of, Covers, IsBestOf, IsCandidate}
+use Rattle.separation.specs.inner.Candidates.{first_candidate, Covers, IsBestOf, IsCandidate}
 use Rattle.separation.specs.inner.Extents.{extent_at}
 use Rattle.separation.specs.inner.Sweeps.{AreThese, IsSeen, IsSwept, ShareBefore, IsMeetingFrom, IsFirstFrom, past}
 use Rattle.separation.proofs.CandidateLemmas.{covers_itself, first_covers, first_found, first_keeps, one_order}
 use Rattle.separation.proofs.SweepLemmas.{none_swept, swept_past}
 
-module _ (shape : Shape) (choices : List Choice) (places : Places) (extents : List Extent) where
+module _ (shape : Shape) (choices : List Choice) (places : Places) (extents : List SegmentExtent) where
   -- a meeting with its number of open sides
-  pub record IsCountOf (found : Meeting) (c : Candidate) : Type 0 where
+  pub record IsCountOf (found : SharingPair) (c : Candidate) : Type 0 where
     pub s : c.s ≡ found.s
     pub t : c.t ≡ found.t
     pub open_sides : HasOpenSides shape choices found.s found.t c.«open»
 
-  candidate_at : (from : Position) (found : Meeting) (c : Candidate) → IsCountOf found c → IsMeetingFrom shape extents from found →
+  candidate_at : (from : Position) (found : SharingPair) (c : Candidate) → IsCountOf found c → IsMeetingFrom shape extents from found →
       IsFirstFrom shape places extents from found → IsCandidate shape choices places c
   candidate_at from found c count meeting first = record {
     pair = subst (λ (x : ℕ). IsPair shape x c.t) (sym count.s) (subst (λ (x : ℕ). IsPair shape found.s x) (sym count.t) meeting.pair);
@@ -33,7 +33,7 @@ module _ (shape : Shape) (choices : List Choice) (places : Places) (extents : Li
   }
 
   -- the pair of the two extents is that of the candidate
-  covered_here : (from : Position) (found : Meeting) (c best : Candidate) → IsCountOf found c → IsMeetingFrom shape extents from found →
+  covered_here : (from : Position) (found : SharingPair) (c best : Candidate) → IsCountOf found c → IsMeetingFrom shape extents from found →
       Covers shape choices best c.s c.t → (s t : ℕ) → AreThese (extent_at extents found.at.first).segment (extent_at extents found.at.second).segment s t →
       IsPair shape s t → Covers shape choices best s t
   covered_here from found c best count meeting covers s t these pair =
@@ -42,7 +42,7 @@ module _ (shape : Shape) (choices : List Choice) (places : Places) (extents : Li
       let same = one_order _ _ found.s found.t s t meeting.pair.in_order pair.in_order meeting.these these in
       subst (λ (x : ℕ). Covers shape choices best x t) same.0 (subst (λ (x : ℕ). Covers shape choices best found.s x) same.1 own)
 
-  pub best_first : (first : Meeting) (c : Candidate) → IsCountOf first c → IsMeetingFrom shape extents (record { first = 0; second = 1 }) first →
+  pub best_first : (first : SharingPair) (c : Candidate) → IsCountOf first c → IsMeetingFrom shape extents (record { first = 0; second = 1 }) first →
       IsFirstFrom shape places extents (record { first = 0; second = 1 }) first → IsBestOf shape choices places (IsSwept extents (past first)) c
   best_first first c count meeting is = record {
     candidate = candidate_at _ first c count meeting is;
@@ -58,9 +58,9 @@ module _ (shape : Shape) (choices : List Choice) (places : Places) (extents : Li
       by_case s t pair share (inl before) = absurd (none_swept extents s t (is.none_before s t before pair share))
       by_case s t pair share (inr these) = covered_here _ first c c count meeting (covers_itself shape choices c candidate.open_sides) s t these pair
 
-  pub best_next : (at : Position) (found : Meeting) (best c : Candidate) → IsBestOf shape choices places (IsSwept extents at) best → IsCountOf found c →
+  pub best_next : (at : Position) (found : SharingPair) (best c : Candidate) → IsBestOf shape choices places (IsSwept extents at) best → IsCountOf found c →
       IsMeetingFrom shape extents at found → IsFirstFrom shape places extents at found →
-      IsBestOf shape choices places (IsSwept extents (past found)) (first_of best c)
+      IsBestOf shape choices places (IsSwept extents (past found)) (first_candidate best c)
   best_next at found best c so_far count meeting is = record {
     candidate = first_found shape choices places best c candidate so_far.candidate;
     covered = λ s t swept pair share. by_case s t pair share (swept_past extents found s t swept);
@@ -71,11 +71,11 @@ module _ (shape : Shape) (choices : List Choice) (places : Places) (extents : Li
 
       by_case : (s t : ℕ) → IsPair shape s t → ShareAPoint shape places s t →
           IsSwept extents found.at s t ⊎ AreThese (extent_at extents found.at.first).segment (extent_at extents found.at.second).segment s t →
-          Covers shape choices (first_of best c) s t
+          Covers shape choices (first_candidate best c) s t
       by_case s t pair share (inl before) =
           first_keeps shape choices best c s t (so_far.covered s t (is.none_before s t before pair share) pair share)
       by_case s t pair share (inr these) =
-          covered_here at found c (first_of best c) count meeting (first_covers shape choices best c candidate.open_sides) s t these pair
+          covered_here at found c (first_candidate best c) count meeting (first_covers shape choices best c candidate.open_sides) s t these pair
 
   pub best_end : (at : Position) (best : Candidate) → IsBestOf shape choices places (IsSwept extents at) best →
       ShareBefore shape places (IsSeen extents) (IsSwept extents at) → IsBestOf shape choices places (IsSeen extents) best

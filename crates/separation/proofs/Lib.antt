@@ -1,11 +1,11 @@
-pub mod Centre
+pub mod CompleteExtensions
 pub mod PairSides
-pub mod Turning
+pub mod PairOrder
 pub mod EndLemmas
 pub mod CandidateLemmas
 pub mod SweepLemmas
 pub mod FewestLemmas
-pub mod Sorted
+pub mod SortedSegments
 pub mod ReachLemmas
 pub mod ChoosingLemmas
 pub mod BranchLaws

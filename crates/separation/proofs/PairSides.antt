@@ -5,7 +5,7 @@ use Rattle.bars.specs.Segments.{segment_count, node_count, IsPair, low_node, hig
 use Rattle.bars.specs.Sides.{side_axis, first_at_side, second_at_side}
 use Rattle.bars.proofs.Laws.{low_below, high_below}
 use Rattle.shape_graphs.proofs.Laws.{first_below}
-use Rattle.separation.proofs.Centre.{first_there}
+use Rattle.separation.proofs.CompleteExtensions.{first_there}
 
 module _ (shape : Shape) (s t side : ℕ) (pair : IsPair shape s t) where
   -- the arc of a side begins and ends at nodes of its graph

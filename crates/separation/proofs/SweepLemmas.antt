@@ -8,16 +8,16 @@ use Rattle.compact_types.specs.declared.plan.Shape.{Shape}
 use Rattle.compact_types.specs.Drawings.{HasWays}
 use Rattle.bars.specs.Segments.{IsPair}
 use Rattle.bars.specs.Solutions.{HasDrawing}
-use Rattle.separation.specs.declared.extents.Extent.{Extent}
-use Rattle.separation.specs.declared.sweep.Meeting.{Meeting}
+use Rattle.separation.specs.declared.extents.SegmentExtent.{SegmentExtent}
+use Rattle.separation.specs.declared.sweep.SharingPair.{SharingPair}
 use Rattle.separation.specs.declared.sweep.Position.{Position}
 use Rattle.separation.specs.Meetings.{ShareAPoint, IsSharingPair}
 use Rattle.separation.specs.inner.Extents.{extent_at, AreExtentsAlong, BeginInOrder}
-use Rattle.separation.specs.inner.Sweeps.{AreThese, IsSeenWith, IsSeenBefore, IsSeen, IsSwept, IsNotBefore, ShareBefore, IsMeetingFrom, IsFirstFrom, IsNextSharing, left_from, numbers_of, past}
+use Rattle.separation.specs.inner.Sweeps.{AreThese, IsSeenWith, IsSeenBefore, IsSeen, IsSwept, IsNotBefore, ShareBefore, IsMeetingFrom, IsFirstFrom, IsNextSharing, left_from, segments_of_pair, past}
 use Rattle.separation.proofs.CandidateLemmas.{share_along}
 use Rattle.separation.proofs.EndLemmas.{overlap_holds}
 
-module _ (extents : List Extent) where
+module _ (extents : List SegmentExtent) where
   -- one extent more after extent i
   pub seen_one_more : (i j n s t : ℕ) → n ≡ j + 1 → IsSeenWith extents i n s t →
       IsSeenWith extents i j s t ⊎ AreThese (extent_at extents i).segment (extent_at extents j).segment s t
@@ -42,7 +42,7 @@ module _ (extents : List Extent) where
           inr (subst (λ (a : ℕ). IsSeenWith extents a (length extents) s t) same seen.2)
 
   -- a sweep that has come past a pair has looked at it, and else at what it had looked at before
-  pub swept_past : (found : Meeting) (s t : ℕ) → IsSwept extents (past found) s t →
+  pub swept_past : (found : SharingPair) (s t : ℕ) → IsSwept extents (past found) s t →
       IsSwept extents found.at s t ⊎ AreThese (extent_at extents found.at.first).segment (extent_at extents found.at.second).segment s t
   swept_past found s t (inl before) = inl (inl before)
   swept_past found s t (inr seen) = by_case (seen_one_more found.at.first found.at.second (found.at.second + 1) s t refl seen)
@@ -58,7 +58,7 @@ module _ (extents : List Extent) where
   none_swept s t (inr seen) = let first = seen.1 in let last = seen.2 in omega (arith, first, last)
 
   -- past a pair fewer positions are left
-  pub fewer_left : (from : Position) (found : Meeting) → IsNotBefore from found.at → found.at.first < length extents → found.at.second < length extents →
+  pub fewer_left : (from : Position) (found : SharingPair) → IsNotBefore from found.at → found.at.first < length extents → found.at.second < length extents →
       left_from extents (past found) < left_from extents from
   fewer_left from found (inl row) first second =
       let n = length extents in
@@ -80,7 +80,7 @@ not_before_trans a b c (inl p) (inr q) = inl (let e = q.0 in omega (arith, p, e)
 not_before_trans a b c (inr p) (inl q) = inl (let e = p.0 in omega (arith, q, e))
 not_before_trans a b c (inr p) (inr q) = inr (p.0 ∙ q.0, (let e = p.1 in let f = q.1 in omega (arith, e, f)))
 
-pub meeting_from : (shape : Shape) (extents : List Extent) (from at : Position) (found : Meeting) → IsNotBefore from at → IsMeetingFrom shape extents at found →
+pub meeting_from : (shape : Shape) (extents : List SegmentExtent) (from at : Position) (found : SharingPair) → IsNotBefore from at → IsMeetingFrom shape extents at found →
     IsMeetingFrom shape extents from found
 meeting_from shape extents from at found order meeting = record {
   pair = meeting.pair;
@@ -90,7 +90,7 @@ meeting_from shape extents from at found order meeting = record {
   later = not_before_trans from at found.at order meeting.later;
 }
 
-module _ (shape : Shape) (places : Places) (extents : List Extent) where
+module _ (shape : Shape) (places : Places) (extents : List SegmentExtent) where
   -- a row, after one extent more that shares no point
   pub row_one_more : (i j n : ℕ) (Before : ℕ → ℕ → Type 0) → n ≡ j + 1 → ShareBefore shape places (IsSeenWith extents i j) Before →
       ((s t : ℕ) → AreThese (extent_at extents i).segment (extent_at extents j).segment s t → IsPair shape s t → ShareAPoint shape places s t → ⊥) →
@@ -130,7 +130,7 @@ module _ (shape : Shape) (places : Places) (extents : List Extent) where
           absurd (omega (arith, ints, gap, left, first))
 
   -- the pair that a row comes to is the first from the position on
-  pub first_in_row : (from : Position) (found : Meeting) → from.first ≡ found.at.first → ShareAPoint shape places found.s found.t →
+  pub first_in_row : (from : Position) (found : SharingPair) → from.first ≡ found.at.first → ShareAPoint shape places found.s found.t →
       ShareBefore shape places (IsSeenWith extents found.at.first found.at.second) (IsSeenWith extents from.first from.second) →
       IsFirstFrom shape places extents from found
   first_in_row from found row share so_far = record { share = share; none_before = none_before }
@@ -153,7 +153,7 @@ module _ (shape : Shape) (places : Places) (extents : List Extent) where
       let last = seen.2 in
       absurd (omega (arith, row, column, first, last))
 
-  pub first_through : (from at : Position) (found : Meeting) → ShareBefore shape places (IsSwept extents at) (IsSwept extents from) →
+  pub first_through : (from at : Position) (found : SharingPair) → ShareBefore shape places (IsSwept extents at) (IsSwept extents from) →
       IsFirstFrom shape places extents at found → IsFirstFrom shape places extents from found
   first_through from at found so_far first = record {
     share = first.share;
@@ -167,14 +167,14 @@ module _ (shape : Shape) (places : Places) (extents : List Extent) where
       let less = seen.1 in so_far s t (inl (seen.0, omega (arith, less, past), seen.2)) pair share
 
   -- the pair that was found, by its numbers
-  pub told_by_numbers : (P : Type 0) (from : Position) (found : Option Meeting) (told : Option (ℕ × ℕ)) → told ≡ numbers_of found →
+  pub told_by_numbers : (P : Type 0) (from : Position) (found : Option SharingPair) (told : Option (ℕ × ℕ)) → told ≡ segments_of_pair found →
       MatchOption found (Unit {0}) (IsMeetingFrom shape extents from) → IsNextSharing shape places extents from found →
       (ShareBefore shape places (IsSeen extents) (IsSwept extents from) → P) →
       MatchOption told P (λ pair. IsSharingPair shape places pair.0 pair.1)
   told_by_numbers P from found told is meeting next holds =
       subst (λ (o : Option (ℕ × ℕ)). MatchOption o P (λ pair. IsSharingPair shape places pair.0 pair.1)) (sym is) (by_found found meeting next)
     where
-      by_found : (found : Option Meeting) → MatchOption found (Unit {0}) (IsMeetingFrom shape extents from) → IsNextSharing shape places extents from found →
-          MatchOption (numbers_of found) P (λ pair. IsSharingPair shape places pair.0 pair.1)
+      by_found : (found : Option SharingPair) → MatchOption found (Unit {0}) (IsMeetingFrom shape extents from) → IsNextSharing shape places extents from found →
+          MatchOption (segments_of_pair found) P (λ pair. IsSharingPair shape places pair.0 pair.1)
       by_found None meeting none = holds none
       by_found (Some pair) meeting first = record { pair = meeting.pair; share = first.share }

@@ -20,7 +20,7 @@ pub record IsLeastSide (shape : Shape) (places : Places) (s t side : ℕ) : Type
   pub least : (lesser : ℕ) → lesser < side → SideHolds shape places s t lesser → ⊥
 
 -- when its turn came the pair was separated by the choices before it, or it was chosen
-pub record IsSettled (shape : Shape) (choices : List Choice) (s t j : ℕ) : Type 0 where
+pub record IsPairSettled (shape : Shape) (choices : List Choice) (s t j : ℕ) : Type 0 where
   pub turn : j ≤ length choices
   pub before : AreBefore choices j s t
   pub either : IsSeparated shape (take j choices) s t
@@ -36,4 +36,4 @@ pub record IsExtensionOf (shape : Shape) (places : Places) (choices : List Choic
       IsSeparated shape (take j choices) (choice_at choices j).s (choice_at choices j).t → ⊥
   pub least : (j : ℕ) → j < length choices →
       IsLeastSide shape places (choice_at choices j).s (choice_at choices j).t (choice_at choices j).side
-  pub settled : (s t : ℕ) → IsPair shape s t → (j : ℕ) × IsSettled shape choices s t j
+  pub settled : (s t : ℕ) → IsPair shape s t → (j : ℕ) × IsPairSettled shape choices s t j

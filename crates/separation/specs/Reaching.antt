@@ -28,13 +28,13 @@ ClosesCycle shape choices s t side =
     ⊎ HasPath (arcs_of (side_axis side) shape choices) (side_arc shape s t side).to (side_arc shape s t side).from
 
 -- the side is open: its arc closes no cycle
-abbrev pub IsOpen : Shape → List Choice → ℕ → ℕ → ℕ → Type 0
-IsOpen shape choices s t side = ClosesCycle shape choices s t side → ⊥
+abbrev pub IsSideOpen : Shape → List Choice → ℕ → ℕ → ℕ → Type 0
+IsSideOpen shape choices s t side = ClosesCycle shape choices s t side → ⊥
 
 -- the flags say which of the four sides are open
 pub record AreOpenSides (shape : Shape) (choices : List Choice) (s t : ℕ) (flags : List Bool) : Type 0 where
   pub four : length flags ≡ 4
-  pub each : (side : ℕ) → side < 4 → (slice_index_or flags side false ≡ true) ↔ IsOpen shape choices s t side
+  pub each : (side : ℕ) → side < 4 → (slice_index_or flags side false ≡ true) ↔ IsSideOpen shape choices s t side
 
 -- so many of the four sides are open
 abbrev pub HasOpenSides : Shape → List Choice → ℕ → ℕ → ℕ → Type 0

@@ -11,7 +11,7 @@ ghost use Rattle.separation.specs.Reaching.{IsReachOf, IsReach};
 ghost use Rattle.separation.specs.inner.Extents.{HasRoom};
 
 use crate::candidates::fewest_open;
-use crate::extents::{Extent, NOWHERE, ROOM, has_room, put_in_order};
+use crate::extents::{NOWHERE, ROOM, SegmentExtent, has_room, put_in_order};
 use crate::sides::Reach;
 use crate::sweep::{START, next_sharing};
 use bars::Bars;
@@ -65,7 +65,7 @@ fn pair_in<const N: usize>(bars: &Bars, reach: &Reach, places: &Places) -> Optio
 
 /// The pair, with room for the extents of all segments and for the coordinates of the nodes.
 fn pair_with(
-    room: &mut [Extent],
+    room: &mut [SegmentExtent],
     xs: &mut [i64],
     ys: &mut [i64],
     bars: &Bars,

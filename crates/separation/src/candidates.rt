@@ -12,9 +12,9 @@ ghost use Rattle.separation.specs.inner.Candidates.{IsBestOf, IsSetting};
 ghost use Rattle.separation.specs.inner.Extents.{AreExtentsAlong, AreInShape, BeginInOrder};
 ghost use Rattle.separation.specs.inner.Sweeps.{IsMeetingFrom, IsNextSharing, IsSeen};
 
-use crate::extents::Extent;
+use crate::extents::SegmentExtent;
 use crate::sides::{Reach, Sides, open_sides};
-use crate::sweep::{Meeting, START, next_sharing};
+use crate::sweep::{START, SharingPair, next_sharing};
 use bars::Bars;
 
 /// A pair without a common vertex, and how many of its sides are open.
@@ -30,8 +30,8 @@ pub(crate) struct Candidate {
 pub(crate) fn fewest_open(
     bars: &Bars,
     reach: &Reach,
-    extents: &[Extent],
-    first: Meeting,
+    extents: &[SegmentExtent],
+    first: SharingPair,
 ) -> Candidate
     requires in_shape { AreInShape bars.now extents.now }
     requires reach { IsReach bars.now reach.now }
@@ -45,14 +45,14 @@ pub(crate) fn fewest_open(
     let mut best = candidate_of(bars, reach, &first);
     let mut at = first.past();
     while let Some(found) = next_sharing(bars, extents, at) {
-        best = first_of(best, candidate_of(bars, reach, &found));
+        best = first_candidate(best, candidate_of(bars, reach, &found));
         at = found.past();
     }
     best
 }
 
 /// The pair, and how many of its sides are open.
-fn candidate_of(bars: &Bars, reach: &Reach, found: &Meeting) -> Candidate
+fn candidate_of(bars: &Bars, reach: &Reach, found: &SharingPair) -> Candidate
     requires pair { IsPair bars.now found.now.s found.now.t }
     requires reach { IsReach bars.now reach.now }
     ensures s { result.s ≡ found.now.s }
@@ -73,8 +73,8 @@ fn open_count(sides: &Sides) -> usize
 }
 
 /// The first of the best so far and one more.
-fn first_of(best: Candidate, candidate: Candidate) -> Candidate
-    ensures { result ≡ candidates.first_of best candidate }
+fn first_candidate(best: Candidate, candidate: Candidate) -> Candidate
+    ensures { result ≡ candidates.first_candidate best candidate }
 {
     if comes_before(&candidate, &best) {
         candidate

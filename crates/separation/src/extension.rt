@@ -10,7 +10,7 @@ ghost use Rattle.separation.specs.Extensions.{IsExtensionOf};
 ghost use Rattle.separation.specs.inner.Choosing.{AreChosen, AreLeast, least_side};
 ghost use Rattle.separation.specs.inner.Extents.{extent_at, AreExtents, HasRoom};
 
-use crate::extents::{Extent, NOWHERE, ROOM, ends_below, ends_west, put_extents};
+use crate::extents::{NOWHERE, ROOM, SegmentExtent, ends_below, ends_west, put_extents};
 use crate::sides::{Reach, add_side_arc, is_separated, reach_of};
 use bars::Bars;
 use compact_types::{Choice, Extension, Items, NoMemory, Places};
@@ -36,7 +36,7 @@ pub fn extension_of(alloc: Global, bars: &Bars, places: &Places) -> Result<Exten
 /// The extension, with room for the extents of all segments.
 fn extension_in(
     alloc: Global,
-    room: &mut [Extent],
+    room: &mut [SegmentExtent],
     bars: &Bars,
     places: &Places,
 ) -> Result<Extension, NoMemory>
@@ -54,7 +54,7 @@ fn extension_in(
 }
 
 /// The choices of all pairs, with the least side that keeps the extents apart.
-fn choose_all(alloc: Global, bars: &Bars, extents: &[Extent]) -> Result<Extension, NoMemory>
+fn choose_all(alloc: Global, bars: &Bars, extents: &[SegmentExtent]) -> Result<Extension, NoMemory>
     requires one_for_each { length extents.now ≡ segment_count bars.now }
     requires few { segment_count bars.now ≤ ROOM }
     ensures { IfOk result (λ extension. (places : Places) → IsDrawing bars.now places →
@@ -77,7 +77,7 @@ fn choose_with_later(
     extension: &mut Extension,
     reach: &mut Reach,
     bars: &Bars,
-    extents: &[Extent],
+    extents: &[SegmentExtent],
     s: u32,
 ) -> Result<(), NoMemory>
     requires s { s < segment_count bars.now }
@@ -103,7 +103,7 @@ fn choose(
     extension: &mut Extension,
     reach: &mut Reach,
     bars: &Bars,
-    extents: &[Extent],
+    extents: &[SegmentExtent],
     s: u32,
     t: u32,
 ) -> Result<(), NoMemory>
@@ -132,7 +132,7 @@ fn choose(
 }
 
 /// The least side that keeps the two apart.
-fn least_side(a: &Extent, b: &Extent) -> u8
+fn least_side(a: &SegmentExtent, b: &SegmentExtent) -> u8
     ensures side { result ≡ least_side a.now b.now }
     ensures below { result < 4 }
 {

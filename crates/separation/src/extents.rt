@@ -22,7 +22,7 @@ pub(crate) const ROOM: usize = MOST_VERTICES as usize;
 /// A segment, and how far it reaches. For a sweep from below the extents are turned: then `left`
 /// and `right` are the low and the high end, and the other way round.
 #[derive(Clone, Copy, Debug)]
-pub(crate) struct Extent {
+pub(crate) struct SegmentExtent {
     pub(crate) segment: u32,
     pub(crate) left: i64,
     pub(crate) right: i64,
@@ -31,7 +31,7 @@ pub(crate) struct Extent {
 }
 
 /// The extent of no segment.
-pub(crate) const NOWHERE: Extent = Extent {
+pub(crate) const NOWHERE: SegmentExtent = SegmentExtent {
     segment: 0,
     left: 0,
     right: 0,
@@ -49,7 +49,7 @@ pub(crate) fn has_room(bars: &Bars, room: u32) -> bool
 /// Puts the extents of all segments in the order in which they begin, along the axis along which
 /// they reach farther: there fewer of them overlap.
 pub(crate) fn put_in_order(
-    extents: &mut [Extent],
+    extents: &mut [SegmentExtent],
     xs: &mut [i64],
     ys: &mut [i64],
     bars: &Bars,
@@ -73,7 +73,7 @@ pub(crate) fn put_in_order(
 /// Puts at each place the extent of the segment of that number, with room for the coordinates of
 /// the nodes along x and along y.
 pub(crate) fn put_extents(
-    extents: &mut [Extent],
+    extents: &mut [SegmentExtent],
     xs: &mut [i64],
     ys: &mut [i64],
     bars: &Bars,
@@ -95,7 +95,7 @@ pub(crate) fn put_extents(
 }
 
 /// Turns the extents where they reach farther along y than along x.
-fn turn_if_higher(extents: &mut [Extent])
+fn turn_if_higher(extents: &mut [SegmentExtent])
     ensures len { length extents.new ≡ length extents.old }
     ensures turned { (axis : Axis) × AreTurned axis extents.old extents.new }
 {
@@ -106,7 +106,7 @@ fn turn_if_higher(extents: &mut [Extent])
 
 /// Whether the extents reach farther along y than along x. Either answer serves: it only spares
 /// comparisons.
-fn reach_higher(extents: &[Extent]) -> bool {
+fn reach_higher(extents: &[SegmentExtent]) -> bool {
     let mut right = 0;
     let mut high = 0;
     for extent in extents {
@@ -117,7 +117,7 @@ fn reach_higher(extents: &[Extent]) -> bool {
 }
 
 /// Turns the extents: their beginnings and ends along x and along y change places.
-fn turn(extents: &mut [Extent])
+fn turn(extents: &mut [SegmentExtent])
     ensures len { length extents.new ≡ length extents.old }
     ensures turned { AreTurned axes.Y extents.old extents.new }
 {
@@ -127,10 +127,10 @@ fn turn(extents: &mut [Extent])
 }
 
 /// The extent with the axes in each other's place.
-fn turned(extent: Extent) -> Extent
+fn turned(extent: SegmentExtent) -> SegmentExtent
     ensures { result ≡ turned_along axes.Y extent }
 {
-    Extent {
+    SegmentExtent {
         segment: extent.segment,
         left: extent.low,
         right: extent.high,
@@ -140,7 +140,7 @@ fn turned(extent: Extent) -> Extent
 }
 
 /// Orders the extents by where they begin.
-fn order_by_left(extents: &mut [Extent])
+fn order_by_left(extents: &mut [SegmentExtent])
     ensures permutation { IsPermutation extents.old extents.new }
     ensures len { length extents.new ≡ length extents.old }
     ensures in_order { BeginInOrder extents.new }
@@ -149,35 +149,35 @@ fn order_by_left(extents: &mut [Extent])
 }
 
 /// Whether neither ends before the other begins, along both axes.
-pub(crate) fn overlap(a: &Extent, b: &Extent) -> bool
+pub(crate) fn overlap(a: &SegmentExtent, b: &SegmentExtent) -> bool
     ensures { result ≡ overlap a.now b.now }
 {
     meet_in_x(a, b) && meet_in_y(a, b)
 }
 
 /// Whether the first ends west of where the second begins.
-pub(crate) fn ends_west(a: &Extent, b: &Extent) -> bool
+pub(crate) fn ends_west(a: &SegmentExtent, b: &SegmentExtent) -> bool
     ensures { result ≡ int_lt a.now.right b.now.left }
 {
     a.right < b.left
 }
 
 /// Whether the first ends below where the second begins.
-pub(crate) fn ends_below(a: &Extent, b: &Extent) -> bool
+pub(crate) fn ends_below(a: &SegmentExtent, b: &SegmentExtent) -> bool
     ensures { result ≡ int_lt a.now.high b.now.low }
 {
     a.high < b.low
 }
 
 /// Whether neither ends west of the other's beginning.
-fn meet_in_x(a: &Extent, b: &Extent) -> bool
+fn meet_in_x(a: &SegmentExtent, b: &SegmentExtent) -> bool
     ensures { result ≡ meet_in_x a.now b.now }
 {
     b.left <= a.right && a.left <= b.right
 }
 
 /// Whether neither ends below the other's beginning.
-fn meet_in_y(a: &Extent, b: &Extent) -> bool
+fn meet_in_y(a: &SegmentExtent, b: &SegmentExtent) -> bool
     ensures { result ≡ meet_in_y a.now b.now }
 {
     b.low <= a.high && a.low <= b.high
@@ -185,7 +185,7 @@ fn meet_in_y(a: &Extent, b: &Extent) -> bool
 
 /// The extent of the segment `s`, by the coordinates of the nodes.
 #[tactic(auto, using(crate::proofs::EndLemmas::low_inside, crate::proofs::EndLemmas::high_inside))]
-fn extent_of(bars: &Bars, xs: &[i64], ys: &[i64], s: u32) -> Extent
+fn extent_of(bars: &Bars, xs: &[i64], ys: &[i64], s: u32) -> SegmentExtent
     requires segment { s < segment_count bars.now }
     requires xs { node_count axes.X bars.now ≤ length xs.now }
     requires ys { node_count axes.Y bars.now ≤ length ys.now }
@@ -195,7 +195,7 @@ fn extent_of(bars: &Bars, xs: &[i64], ys: &[i64], s: u32) -> Extent
         AreAtNodes axes.Y bars.now places bars.now.plan.vertices ys.now →
         IsExtent bars.now places result }
 {
-    Extent {
+    SegmentExtent {
         segment: s,
         left: xs[bars.left(s) as usize],
         right: xs[bars.right(s) as usize],

@@ -8,10 +8,10 @@ ghost use Rattle.bars.specs.Segments.{segment_count, node_count};
 ghost use Rattle.bars.specs.Solutions.{Fit, HasDrawing, Solves};
 ghost use Rattle.separation.specs.Meetings.{IsSharingPair};
 ghost use Rattle.separation.specs.inner.Extents.{HasRoom};
-ghost use Rattle.separation.specs.inner.Sweeps.{numbers_of};
+ghost use Rattle.separation.specs.inner.Sweeps.{segments_of_pair};
 
-use crate::extents::{Extent, NOWHERE, ROOM, has_room, put_in_order};
-use crate::sweep::{Meeting, START, next_sharing};
+use crate::extents::{NOWHERE, ROOM, SegmentExtent, has_room, put_in_order};
+use crate::sweep::{START, SharingPair, next_sharing};
 use bars::Bars;
 use compact_types::Places;
 
@@ -58,7 +58,7 @@ fn sharing_in<const N: usize>(bars: &Bars, places: &Places) -> Option<(u32, u32)
 
 /// The pair, with room for the extents of all segments and for the coordinates of the nodes.
 fn sharing_with(
-    room: &mut [Extent],
+    room: &mut [SegmentExtent],
     xs: &mut [i64],
     ys: &mut [i64],
     bars: &Bars,
@@ -74,12 +74,12 @@ fn sharing_with(
 {
     let extents = &mut room[..bars.bars() as usize];
     put_in_order(extents, xs, ys, bars, places);
-    numbers_of(next_sharing(bars, extents, START))
+    segments_of_pair(next_sharing(bars, extents, START))
 }
 
 /// The numbers of the segments of the pair, where one was found.
-fn numbers_of(found: Option<Meeting>) -> Option<(u32, u32)>
-    ensures { result ≡ numbers_of found }
+fn segments_of_pair(found: Option<SharingPair>) -> Option<(u32, u32)>
+    ensures { result ≡ segments_of_pair found }
 {
     match found {
         None => None,

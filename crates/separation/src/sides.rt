@@ -8,7 +8,7 @@ ghost use Rattle.bars.specs.Solutions.{Fit, with_choice};
 ghost use Rattle.shape_graphs.specs.Graphs as graphs;
 ghost use Rattle.shape_graphs.specs.Graphs.{arcs_of};
 ghost use Rattle.shape_graphs.specs.Paths.{HasPath};
-ghost use Rattle.shape_graphs.specs.Separation.{IsKept, IsSeparated};
+ghost use Rattle.shape_graphs.specs.Separation.{HasSidePath, IsSeparated};
 ghost use Rattle.separation.specs.Reaching.{IsReachOf, IsReach, ClosesCycle, AreOpenSides};
 
 use bars::Bars;
@@ -95,7 +95,7 @@ fn is_kept(bars: &Bars, reach: &Reach, s: u32, t: u32, side: u8) -> bool
     requires side { side < 4 }
     requires reach { IsReach bars.now reach.now }
     ensures { (choices : List AnyChoice) → IsReachOf bars.now choices reach.now →
-        IsTrue result ↔ IsKept bars.now choices s t side }
+        IsTrue result ↔ HasSidePath bars.now choices s t side }
 {
     let (from, to) = side_ends(bars, s, t, side);
     leads(bars, reach, side, from, to)

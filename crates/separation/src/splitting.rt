@@ -10,7 +10,7 @@ ghost use Rattle.separation.specs.Branching.{IsBranchPair};
 ghost use Rattle.separation.specs.inner.Extents.{HasRoom};
 
 use crate::candidates::fewest_open;
-use crate::extents::{Extent, NOWHERE, ROOM, has_room, put_in_order};
+use crate::extents::{NOWHERE, ROOM, SegmentExtent, has_room, put_in_order};
 use crate::sides::reach_of;
 use crate::sweep::{START, next_sharing};
 use bars::Bars;
@@ -70,7 +70,7 @@ fn splitting_in<const N: usize>(
 /// The pair, with room for the extents of all segments and for the coordinates of the nodes.
 fn splitting_with(
     alloc: Global,
-    room: &mut [Extent],
+    room: &mut [SegmentExtent],
     xs: &mut [i64],
     ys: &mut [i64],
     bars: &Bars,

@@ -12,7 +12,7 @@ ghost use Rattle.separation.specs.inner.Sweeps as sweeps;
 ghost use Rattle.separation.specs.inner.Sweeps.{IsMeetingFrom, IsNextInRow, IsNextSharing};
 ghost use Rattle.separation.specs.inner.Sweeps.{IsPairOf, SharesIfGiven};
 
-use crate::extents::{Extent, ends_west, overlap};
+use crate::extents::{SegmentExtent, ends_west, overlap};
 use bars::Bars;
 
 /// The places of the two extents that a sweep compares next.
@@ -30,13 +30,13 @@ pub(crate) const START: Position = Position {
 
 /// A pair of segments that share a point and not a vertex, and where the sweep came to it.
 #[derive(Clone, Copy, Debug)]
-pub(crate) struct Meeting {
+pub(crate) struct SharingPair {
     pub(crate) s: u32,
     pub(crate) t: u32,
     pub(crate) at: Position,
 }
 
-impl Meeting {
+impl SharingPair {
     /// Where the sweep goes on after this pair.
     pub(crate) fn past(self) -> Position
         requires { self.at.second < 2 ^ 63 }
@@ -52,7 +52,11 @@ impl Meeting {
 /// The first pair from this position on that shares a point. The sweep goes along the axis of the
 /// extents, and compares each with those that begin before it ends. It can go on from where it came
 /// to a pair, so a split sweeps the extents once.
-pub(crate) fn next_sharing(bars: &Bars, extents: &[Extent], from: Position) -> Option<Meeting>
+pub(crate) fn next_sharing(
+    bars: &Bars,
+    extents: &[SegmentExtent],
+    from: Position,
+) -> Option<SharingPair>
     requires { AreInShape bars.now extents.now }
     ensures meeting { MatchOption result (Unit {0}) (IsMeetingFrom bars.now extents.now from) }
     ensures next { (axis : Axis) (places : Places) → HasDrawing bars.now →
@@ -74,7 +78,7 @@ pub(crate) fn next_sharing(bars: &Bars, extents: &[Extent], from: Position) -> O
 
 /// The first pair that shares a point among those of the first extent of the position and one from
 /// the second on.
-fn next_in_row(bars: &Bars, extents: &[Extent], from: Position) -> Option<Meeting>
+fn next_in_row(bars: &Bars, extents: &[SegmentExtent], from: Position) -> Option<SharingPair>
     requires in_shape { AreInShape bars.now extents.now }
     requires first { from.first < length extents.now }
     ensures meeting { MatchOption result (Unit {0}) (IsMeetingFrom bars.now extents.now from) }
@@ -93,14 +97,14 @@ fn next_in_row(bars: &Bars, extents: &[Extent], from: Position) -> Option<Meetin
                 first: from.first,
                 second: j,
             };
-            return Some(Meeting { s, t, at });
+            return Some(SharingPair { s, t, at });
         }
     }
     None
 }
 
 /// The pair of the two extents, if it shares a point and not a vertex.
-fn sharing_of(bars: &Bars, first: Extent, second: Extent) -> Option<(u32, u32)>
+fn sharing_of(bars: &Bars, first: SegmentExtent, second: SegmentExtent) -> Option<(u32, u32)>
     requires first { first.segment < segment_count bars.now }
     requires second { second.segment < segment_count bars.now }
     ensures pair { MatchOption result (Unit {0})
@@ -120,7 +124,7 @@ fn sharing_of(bars: &Bars, first: Extent, second: Extent) -> Option<(u32, u32)>
 }
 
 /// Whether the segments of the two extents have a vertex in common.
-fn are_joined(bars: &Bars, a: &Extent, b: &Extent) -> bool
+fn are_joined(bars: &Bars, a: &SegmentExtent, b: &SegmentExtent) -> bool
     requires a { a.now.segment < segment_count bars.now }
     requires b { b.now.segment < segment_count bars.now }
     ensures { IsTrue result ↔ ShareVertex bars.now a.now.segment b.now.segment }

@@ -13,7 +13,7 @@ use Rattle.shape_graphs.specs.Arcs.{arc_at, IsArcWithin, AreGraph}
 use Rattle.shape_graphs.specs.Graphs.{piece_arc, side_arc, piece_arcs, choice_arcs, arcs_of}
 use Rattle.shape_graphs.proofs.GraphArcs.{ComesFrom, comes_from}
 use Rattle.shape_graphs.proofs.GraphArcs.ComesFrom.{from_piece, from_choice}
-use Rattle.shape_graphs.proofs.Solving.{IsTaken, solid_from}
+use Rattle.shape_graphs.proofs.NumbersFromPlaces.{IsTaken, solid_from}
 use Rattle.shape_graphs.proofs.FewArcs.{few_piece_arcs, kept_length}
 
 pub taken_below : (axis : Axis) (shape : Shape) (node : ℕ) → IsTaken axis shape node → node < node_count axis shape

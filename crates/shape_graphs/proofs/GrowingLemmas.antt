@@ -19,7 +19,7 @@ use Rattle.shape_graphs.specs.Arcs.{AreGraph}
 use Rattle.shape_graphs.specs.Graphs.{arcs_of, choice_arc_along, choice_arcs, piece_arcs, side_arc}
 use Rattle.shape_graphs.specs.Growing.{AreGrown, IsGrown, graph_on}
 use Rattle.shape_graphs.proofs.GraphFacts.{are_graph}
-use Rattle.shape_graphs.proofs.Pushing.{kept_last}
+use Rattle.shape_graphs.proofs.AddedArcs.{kept_last}
 
 abbrev no_choice : Choice
 no_choice = record { s = 0; t = 0; side = 0 }

@@ -10,10 +10,10 @@ pub mod SimpleLemmas
 pub mod KeyLemmas
 pub mod FilterMaps
 pub mod GraphArcs
-pub mod Solving
+pub mod NumbersFromPlaces
 pub mod Laws
 pub mod FewArcs
 pub mod GraphFacts
-pub mod Existence
-pub mod Pushing
+pub mod PlacesFromNumbers
+pub mod AddedArcs
 pub mod GrowingLemmas

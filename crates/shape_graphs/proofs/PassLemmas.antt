@@ -11,7 +11,7 @@ use Rattle.shape_graphs.specs.declared.trail.Mark.TheVariants.{Fresh, Walked, Le
 use Rattle.shape_graphs.specs.declared.trail.Trail.{Trail}
 use Rattle.shape_graphs.specs.Arcs.{arc_at, EndsAreNodes}
 use Rattle.shape_graphs.specs.Paths.{step_arc}
-use Rattle.shape_graphs.specs.inner.Trails.{IsLastInto, AreLinked, mark_at, IsPassed, ArePassed, IsWalk, IsTrail, IsStep}
+use Rattle.shape_graphs.specs.inner.Trails.{IsLastInto, AreLinked, mark_at, IsPassed, ArePassed, IsWalk, IsTrail, IsTrailStep}
 use Rattle.shape_graphs.proofs.ListCases.{Written, written, Pushed, pushed}
 use Rattle.shape_graphs.proofs.TrailLemmas.{two_nodes, walked_or_left, entered_at}
 
@@ -193,7 +193,7 @@ module _ (nodes : ℕ) (arcs : List Arc) (t : Trail) (node arc value : ℕ) (old
   pass_sum : sum (set t.next node value) + slice_index t.next node ≡ sum t.next + value
   pass_sum = sum_by-set (λ x. x) t.next node value 0 inside
 
-  pub arc_passed : IsStep nodes arcs t (record t { next = set t.next node value; passed = t.passed ++ arc ∷ [] })
+  pub arc_passed : IsTrailStep nodes arcs t (record t { next = set t.next node value; passed = t.passed ++ arc ∷ [] })
   arc_passed = record {
     trail = record {
       next_for_each = length-set t.next node value ∙ old.next_for_each;
@@ -216,9 +216,9 @@ pub passed_at : (nodes : ℕ) (arcs : List Arc) (t new : Trail) (node arc : ℕ)
     walk ≡ t.walk → next ≡ t.next → read ≡ arcs → marks ≡ t.marks →
     node ≡ slice_index walk (length walk - 1) → arc ≡ slice_index next node - 1 → (slice_index next node ≡ 0 → ⊥) →
     mark_at marks (arc_at read arc).from ≡ Left →
-    new ≡ record t { next = set t.next node (slice_index before arc); passed = t.passed ++ arc ∷ [] } → IsStep nodes arcs t new
+    new ≡ record t { next = set t.next node (slice_index before arc); passed = t.passed ++ arc ∷ [] } → IsTrailStep nodes arcs t new
 passed_at nodes arcs t new node arc walk next before read marks old linked some is_walk is_next is_read is_marks is_node is_arc entry from_left is_new =
-    subst (IsStep nodes arcs t) (sym is_new)
+    subst (IsTrailStep nodes arcs t) (sym is_new)
     (arc_passed nodes arcs t node arc (slice_index before arc) old some (sym at_last) at_entry
     (linked.each arc arc_inside) (sym (ap (λ (l : List Arc). mark_at marks (arc_at l arc).from) is_read ∙ ap (λ (l : List Mark). mark_at l (arc_at arcs arc).from) is_marks) ∙ from_left))
   where
@@ -242,7 +242,7 @@ pub followed_at : (nodes : ℕ) (arcs : List Arc) (t new : Trail) (node arc from
     walk ≡ t.walk → next ≡ t.next → read ≡ arcs → marks ≡ t.marks →
     node ≡ slice_index walk (length walk - 1) → arc ≡ slice_index next node - 1 → (slice_index next node ≡ 0 → ⊥) →
     from ≡ (arc_at read arc).from → mark_at marks from ≡ Fresh →
-    new ≡ record t { marks = set t.marks from Walked; walk = t.walk ++ from ∷ [] } → IsStep nodes arcs t new
+    new ≡ record t { marks = set t.marks from Walked; walk = t.walk ++ from ∷ [] } → IsTrailStep nodes arcs t new
 followed_at nodes arcs t new node arc from walk next read marks old ends some is_walk is_next is_read is_marks is_node is_arc entry is_from fresh is_new =
     entered_at nodes arcs t new node arc from old ends some
     (is_node ∙ ap (λ (l : List ℕ). slice_index l (length l - 1)) is_walk)

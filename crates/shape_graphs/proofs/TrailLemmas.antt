@@ -10,7 +10,7 @@ use Rattle.shape_graphs.specs.declared.trail.Mark.{Mark}
 use Rattle.shape_graphs.specs.declared.trail.Mark.TheVariants.{Fresh, Walked, Left}
 use Rattle.shape_graphs.specs.declared.trail.Trail.{Trail}
 use Rattle.shape_graphs.specs.Arcs.{arc_at, EndsAreNodes}
-use Rattle.shape_graphs.specs.inner.Trails.{mark_at, IsWalk, IsTrail, weight_of, IsStep}
+use Rattle.shape_graphs.specs.inner.Trails.{mark_at, IsWalk, IsTrail, weight_of, IsTrailStep}
 use Rattle.shape_graphs.proofs.ListCases.{Written, written, Pushed, pushed}
 
 -- two nodes with different marks are two
@@ -105,7 +105,7 @@ module _ (nodes : ℕ) (arcs : List Arc) (next : List ℕ) (marks : List Mark) (
 -- the mark of a node of the walk stays where a fresh node is marked
 pub entered : (nodes : ℕ) (arcs : List Arc) (t : Trail) (node : ℕ) → IsTrail nodes arcs t → node < nodes → mark_at t.marks node ≡ Fresh →
     LeadsTo arcs t.next t.walk node →
-    IsStep nodes arcs t (record t { marks = set t.marks node Walked; walk = t.walk ++ node ∷ [] })
+    IsTrailStep nodes arcs t (record t { marks = set t.marks node Walked; walk = t.walk ++ node ∷ [] })
 entered nodes arcs t node old is_node fresh last = record {
   trail = record {
     next_for_each = old.next_for_each;
@@ -191,7 +191,7 @@ module _ (nodes : ℕ) (arcs : List Arc) (next : List ℕ) (marks : List Mark) (
 -- a node without an arc at hand is left
 pub left : (nodes : ℕ) (arcs : List Arc) (t : Trail) (node : ℕ) → IsTrail nodes arcs t → 0 < length t.walk →
     slice_index t.walk (length t.walk - 1) ≡ node → slice_index t.next node ≡ 0 →
-    IsStep nodes arcs t (record t { marks = set t.marks node Left; walk = take (length t.walk - 1) t.walk })
+    IsTrailStep nodes arcs t (record t { marks = set t.marks node Left; walk = take (length t.walk - 1) t.walk })
 left nodes arcs t node old some last none = record {
   trail = record {
     next_for_each = old.next_for_each;
@@ -235,17 +235,17 @@ left nodes arcs t node old some last none = record {
 -- the same for what the code reads
 pub left_at : (nodes : ℕ) (arcs : List Arc) (t new : Trail) (node : ℕ) (walk next : List ℕ) → IsTrail nodes arcs t → 0 < length t.walk →
     walk ≡ t.walk → next ≡ t.next → node ≡ slice_index walk (length walk - 1) → slice_index next node ≡ 0 →
-    new ≡ record t { marks = set t.marks node Left; walk = take (length t.walk - 1) t.walk } → IsStep nodes arcs t new
+    new ≡ record t { marks = set t.marks node Left; walk = take (length t.walk - 1) t.walk } → IsTrailStep nodes arcs t new
 left_at nodes arcs t new node walk next old some is_walk is_next is_node none is_new =
-    subst (IsStep nodes arcs t) (sym is_new)
+    subst (IsTrailStep nodes arcs t) (sym is_new)
     (left nodes arcs t node old some (sym (is_node ∙ ap (λ (l : List ℕ). slice_index l (length l - 1)) is_walk))
     (ap (λ (l : List ℕ). slice_index l node) (sym is_next) ∙ none))
 
 pub entered_at : (nodes : ℕ) (arcs : List Arc) (t new : Trail) (node arc from : ℕ) → IsTrail nodes arcs t → EndsAreNodes nodes arcs → 0 < length t.walk →
     node ≡ slice_index t.walk (length t.walk - 1) → slice_index t.next node ≡ suc arc → from ≡ (arc_at arcs arc).from → mark_at t.marks from ≡ Fresh →
-    new ≡ record t { marks = set t.marks from Walked; walk = t.walk ++ from ∷ [] } → IsStep nodes arcs t new
+    new ≡ record t { marks = set t.marks from Walked; walk = t.walk ++ from ∷ [] } → IsTrailStep nodes arcs t new
 entered_at nodes arcs t new node arc from old ends some is_node is_entry is_from fresh is_new =
-    subst (IsStep nodes arcs t) (sym is_new)
+    subst (IsTrailStep nodes arcs t) (sym is_new)
     (entered nodes arcs t from old (rw is_from (ends arc arc_within).0) fresh leads)
   where
     node_within : node < nodes

@@ -6,7 +6,7 @@ ghost use Rattle.shape_graphs.specs.Paths.{HasCycle, IsSimpleCycle};
 ghost use Rattle.shape_graphs.specs.inner.Trails.{IsRound};
 
 use crate::graph::{Cycle, DiffGraph};
-use crate::trail::{Found, search};
+use crate::trail::{OrderOrCycle, search};
 use compact_types::{Items, NoMemory};
 use std::alloc::Global;
 
@@ -20,8 +20,8 @@ pub fn find_cycle(alloc: Global, graph: &DiffGraph) -> Result<Option<Cycle>, NoM
         (λ cycle. IsSimpleCycle graph.now.arcs cycle.arcs)) }
 {
     match search(alloc, graph)? {
-        Found::Order(_) => Ok(None),
-        Found::Cycle(walk) => {
+        OrderOrCycle::Order(_) => Ok(None),
+        OrderOrCycle::Cycle(walk) => {
             let arcs = from_least(alloc, graph, walk.as_slice())?;
             Ok(Some(Cycle { arcs }))
         }
@@ -38,8 +38,8 @@ pub fn arcs_in_order(alloc: Global, graph: &DiffGraph) -> Result<Option<Items<u3
         (IsArcOrder graph.now.arcs)) }
 {
     match search(alloc, graph)? {
-        Found::Order(order) => Ok(Some(order)),
-        Found::Cycle(_) => Ok(None),
+        OrderOrCycle::Order(order) => Ok(Some(order)),
+        OrderOrCycle::Cycle(_) => Ok(None),
     }
 }
 

@@ -1,6 +1,7 @@
 //! Measures of drawings, and the verdicts of their solvers on lists of choices.
 
-ghost use Rattle.std.specs.Prelude.{◌≡◌, ◌↔◌, ℤ, ◌<ℤ◌, ◌≤ℤ◌, pos, List, length, IfOk, MatchOption, OnOk};
+ghost use Rattle.std.specs.Prelude.{◌≡◌, ◌↔◌, ℤ, ◌<ℤ◌, ◌≤ℤ◌, pos, List, length, IfOk, MatchOption};
+ghost use Rattle.std.specs.Prelude.{OnOk};
 ghost use Rattle.compact_types.specs.declared.limits.TheConstants.{GREATEST_THOUSANDTHS};
 ghost use Rattle.compact_types.specs.declared.places.Axis.{Axis as AnyAxis};
 ghost use Rattle.compact_types.specs.declared.places.Key.{Key as AnyKey};

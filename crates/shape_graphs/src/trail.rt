@@ -4,7 +4,7 @@
 ghost use Rattle.std.specs.Prelude.{◌≡◌, ◌<◌, ◌-◌, ◌++◌, [], ◌∷◌, length, replicate, slice_set};
 ghost use Rattle.std.specs.Prelude.{take, IfOk, MatchOption, OnOk};
 ghost use Rattle.shape_graphs.specs.inner.Trails.{AreLinked, AreLast, IsTrail, AreLeftTo};
-ghost use Rattle.shape_graphs.specs.inner.Trails.{IsStep, IsMet, IsRound, IsFound};
+ghost use Rattle.shape_graphs.specs.inner.Trails.{IsTrailStep, IsMet, IsRound, IsOrderOrCycle};
 
 use crate::graph::DiffGraph;
 use compact_types::{Items, NoMemory};
@@ -12,7 +12,7 @@ use std::alloc::Global;
 
 /// What the search ends with: all arcs, in topological order, or a cycle that passes no node twice.
 #[derive(Drop)]
-pub(crate) enum Found {
+pub(crate) enum OrderOrCycle {
     Order(Items<u32>),
     Cycle(Items<u32>),
 }
@@ -42,8 +42,8 @@ struct Trail {
 }
 
 /// All arcs of the graph in topological order, or a cycle.
-pub(crate) fn search(alloc: Global, graph: &DiffGraph) -> Result<Found, NoMemory>
-    ensures { IfOk result (IsFound graph.now.arcs) }
+pub(crate) fn search(alloc: Global, graph: &DiffGraph) -> Result<OrderOrCycle, NoMemory>
+    ensures { IfOk result (IsOrderOrCycle graph.now.arcs) }
 {
     let (last, before) = arcs_into(alloc, graph)?;
     let mut trail = Trail {
@@ -54,10 +54,10 @@ pub(crate) fn search(alloc: Global, graph: &DiffGraph) -> Result<Found, NoMemory
     };
     for start in 0..graph.nodes {
         if let Some(met) = walk_from(graph, before.as_slice(), &mut trail, start)? {
-            return Ok(Found::Cycle(round(alloc, graph, &trail, met)?));
+            return Ok(OrderOrCycle::Cycle(round(alloc, graph, &trail, met)?));
         }
     }
-    Ok(Found::Order(trail.passed))
+    Ok(OrderOrCycle::Order(trail.passed))
 }
 
 /// For each node the last arc into it, and for each arc the one before it that ends at the same
@@ -124,7 +124,7 @@ fn step(graph: &DiffGraph, before: &[u32], trail: &mut Trail) -> Result<Option<u
     requires trail { IsTrail graph.now.nodes graph.now.arcs trail.old }
     requires some { 0 < length trail.old.walk }
     ensures { IfOk result (λ met. MatchOption met
-        (IsStep graph.now.nodes graph.now.arcs trail.old trail.new)
+        (IsTrailStep graph.now.nodes graph.now.arcs trail.old trail.new)
         (IsMet graph.now.nodes graph.now.arcs trail.new)) }
 {
     let walk = trail.walk.as_slice();

@@ -12,8 +12,8 @@ use Rattle.crossbeam_deque.proofs.Lists.{at_set, at_snoc, at_longer, set_here, s
 use Rattle.compact_types.specs.declared.search.Branch.{Branch}
 use Rattle.steal_lanes.specs.declared.views.Taken.{Taken}
 use Rattle.steal_lanes.specs.declared.views.LaneView.{LaneView}
-use Rattle.steal_lanes.specs.Histories.{History, opened, with_put, with_handed}
-use Rattle.steal_lanes.specs.Views.{newcomer, with_branch, with_taken, times_got, times_got_by_all, HasSeat}
+use Rattle.steal_lanes.specs.Histories.{History, new_history, with_put, with_handed}
+use Rattle.steal_lanes.specs.Views.{fresh_view, with_branch, with_taken, times_got, times_got_by_all, HasSeat}
 use Rattle.steal_lanes.specs.Rules.{KnowsPut, AreFrom, IsLaneState, Keeps}
 use Rattle.steal_lanes.specs.Steps.{IsHandedOut, IsPut, WasEmpty}
 use Rattle.steal_lanes.specs.inner.Batches.{IsOne}
@@ -50,28 +50,28 @@ whole_with put views seat new from whole j view at = by_seat (at_set views seat 
     by_seat (inr there) = whole j view there.1
 
 -- who is new got nothing that is not whole
-newcomer_whole : (put : List Branch) (view : LaneView) → newcomer ≡ view → AreFrom put view.got
+newcomer_whole : (put : List Branch) (view : LaneView) → fresh_view ≡ view → AreFrom put view.got
 newcomer_whole put view is = subst (λ (v : LaneView). AreFrom put v.got) is (All-nil (λ (t : Taken). slice_get put t.place ≡ Some t.branch))
 
 -- a new lane keeps the rule
-pub begins : Keeps [] (newcomer ∷ [])
+pub begins : Keeps [] (fresh_view ∷ [])
 begins = record {
-  history = opened;
+  history = new_history;
   waits = refl;
   state = record {
     within = omega arith;
-    known = record { owner = newcomer; seated = refl; put_is = refl };
+    known = record { owner = fresh_view; seated = refl; put_is = refl };
     once = λ place. rw (le-ltb place 0 (omega arith)) refl;
-    whole = λ seat view at. by_seat seat view (at_snoc [] newcomer view seat at);
+    whole = λ seat view at. by_seat seat view (at_snoc [] fresh_view view seat at);
   };
 }
   where
-    by_seat : (seat : ℕ) (view : LaneView) → HasSeat [] seat view ⊎ (newcomer ≡ view) → AreFrom [] view.got
+    by_seat : (seat : ℕ) (view : LaneView) → HasSeat [] seat view ⊎ (fresh_view ≡ view) → AreFrom [] view.got
     by_seat seat view (inl none) = absurd (some-ne-none view (sym none))
     by_seat seat view (inr is) = newcomer_whole [] view is
 
 -- a new pass may come
-pub comes : Admits Keeps newcomer
+pub comes : Admits Keeps fresh_view
 comes items views keeps = record {
   history = keeps.history;
   waits = keeps.waits;
@@ -79,16 +79,16 @@ comes items views keeps = record {
     within = keeps.state.within;
     known = record {
       owner = keeps.state.known.owner;
-      seated = at_longer views (newcomer ∷ []) 0 keeps.state.known.owner keeps.state.known.seated;
+      seated = at_longer views (fresh_view ∷ []) 0 keeps.state.known.owner keeps.state.known.seated;
       put_is = keeps.state.known.put_is;
     };
-    once = λ place. let all : times_got_by_all place (views ++ newcomer ∷ []) ≡ times_got_by_all place views + 0 = sum_by_push (times_got place) views newcomer in
+    once = λ place. let all : times_got_by_all place (views ++ fresh_view ∷ []) ≡ times_got_by_all place views + 0 = sum_by_push (times_got place) views fresh_view in
         omega (arith, keeps.state.once place);
-    whole = λ seat view at. by_seat seat view (at_snoc views newcomer view seat at);
+    whole = λ seat view at. by_seat seat view (at_snoc views fresh_view view seat at);
   };
 }
   where
-    by_seat : (seat : ℕ) (view : LaneView) → HasSeat views seat view ⊎ (newcomer ≡ view) → AreFrom keeps.history.put view.got
+    by_seat : (seat : ℕ) (view : LaneView) → HasSeat views seat view ⊎ (fresh_view ≡ view) → AreFrom keeps.history.put view.got
     by_seat seat view (inl there) = keeps.state.whole seat view there
     by_seat seat view (inr is) = newcomer_whole keeps.history.put view is
 

@@ -9,8 +9,8 @@ pub record History : Type 0 where
   pub handed : ℕ
 
 -- the history of a new lane
-abbrev pub opened : History
-opened = record { put = []; handed = 0 }
+abbrev pub new_history : History
+new_history = record { put = []; handed = 0 }
 
 -- a put appends
 abbrev pub with_put : History → Branch → History

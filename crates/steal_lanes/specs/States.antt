@@ -10,20 +10,20 @@ abbrev pub DequeId : Type 0
 DequeId = RowsId × Global
 
 -- to which lane something belongs: its deque, and the table that counts the splits of its passes
-pub record Home : Type 0 where
+pub record LaneHome : Type 0 where
   pub deque : DequeId
   pub counts : TableId
 
 -- a lane: which one it is, how many puts are never refused, and what its owner knows
 pub record LaneState : Type 0 where
-  pub home : Home
+  pub home : LaneHome
   pub room : ℕ
   pub view : LaneView
 
 -- a pass: to which lane it belongs, what it knows, how many branches it knows to have been handed
 -- out, and its count of splits
 pub record PassState : Type 0 where
-  pub home : Home
+  pub home : LaneHome
   pub view : LaneView
   pub known : ℕ
   pub splits : ℕ

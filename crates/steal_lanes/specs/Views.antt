@@ -7,8 +7,8 @@ use Rattle.compact_types.specs.declared.search.Branch.{Branch}
 use Rattle.steal_lanes.specs.declared.views.LaneView.{LaneView}
 
 -- who put nothing and got nothing
-abbrev pub newcomer : LaneView
-newcomer = record { put = []; got = [] }
+abbrev pub fresh_view : LaneView
+fresh_view = record { put = []; got = [] }
 
 -- the owner put one branch more
 abbrev pub with_branch : LaneView → Branch → LaneView

@@ -1,7 +1,7 @@
 //! A lane as its owner uses it.
 
 ghost use Rattle.std.specs.Prelude.{◌≡◌, ◌+◌, ◌≤◌, length, IfOk, OnOk, MatchOption, MatchResult};
-ghost use Rattle.steal_lanes.specs.Views.{newcomer, with_branch};
+ghost use Rattle.steal_lanes.specs.Views.{fresh_view, with_branch};
 ghost use Rattle.steal_lanes.specs.Steps.{IsHandedOut, IsPut, WasEmpty};
 
 use crate::passes::LanePass;
@@ -56,9 +56,9 @@ impl Lane {
     /// the allocator.
     pub fn new(alloc: Global, room: usize) -> Result<(Lane, LanePass), NoMemory>
         ensures room { IfOk result (λ made. made.0.room ≡ room) }
-        ensures empty { IfOk result (λ made. made.0.view ≡ newcomer) }
+        ensures empty { IfOk result (λ made. made.0.view ≡ fresh_view) }
         ensures home { IfOk result (λ made. made.1.home ≡ made.0.home) }
-        ensures pass { IfOk result (λ made. (made.1.view ≡ newcomer) × (made.1.splits ≡ 0)) }
+        ensures pass { IfOk result (λ made. (made.1.view ≡ fresh_view) × (made.1.splits ≡ 0)) }
     {
         let worker = Worker::fifo_as(alloc, room)?;
         let stealer = worker.stealer()?;
@@ -86,7 +86,7 @@ impl Lane {
         requires { pass.old.home ≡ self.now.home }
         ensures raised { pass.new ≡ record pass.old { splits = pass.old.splits + 1 } }
         ensures home { result.home ≡ self.now.home }
-        ensures new { (result.view ≡ newcomer) × (result.splits ≡ pass.old.splits + 1) }
+        ensures new { (result.view ≡ fresh_view) × (result.splits ≡ pass.old.splits + 1) }
     {
         let count = self.counts.shared.split_seat::<OneMore>(&mut pass.count);
         let port = self.stealer.pass();

@@ -10,13 +10,13 @@ pub(crate) struct LaneRule;
 
 impl Protocol<Branch, LaneView> for LaneRule {
     ghost use Rattle.steal_lanes.specs.Rules.{Keeps};
-    ghost use Rattle.steal_lanes.specs.Views.{newcomer};
+    ghost use Rattle.steal_lanes.specs.Views.{fresh_view};
 
     ghost holds = { Keeps };
 
-    ghost first = { newcomer };
+    ghost first = { fresh_view };
 
-    ghost guest = { newcomer };
+    ghost guest = { fresh_view };
 }
 
 /// The owner puts a branch.

@@ -11,10 +11,10 @@ use Rattle.board.specs.declared.entries.Entry.TheVariants as entry
 use Rattle.board.specs.declared.entries.Settled.{Settled}
 use Rattle.board.specs.Boards.{BoardView, IsClaimAnswer, after_settle}
 use Rattle.board.specs.Histories.{caller_of}
-use Rattle.ticket_board.specs.declared.views.View.{View}
+use Rattle.ticket_board.specs.declared.views.CallerView.{CallerView}
 use Rattle.ticket_board.specs.Passes.{entries_by}
 use Rattle.ticket_board.specs.inner.Plays.{Sat, IsBoardOf}
-use Rattle.ticket_board.specs.inner.Turns.{Adds, AddsOwn, IsTaken}
+use Rattle.ticket_board.specs.inner.Turns.{Adds, AddsOwn, HasTakenBoard}
 
 -- one entry is no other caller's
 one_entry : (number : ℕ) (entry : Entry) → caller_of entry ≡ number → (other : ℕ) → other ≢ number → entries_by other (entry ∷ []) ≡ []
@@ -47,7 +47,7 @@ module _ {P : Type 0} where
       (ap (λ (board : BoardView P). board.entries) same) (one_entry number settled refl)
 
   -- what the seat's caller added to the board that it took out may go back
-  pub goes_back : (view : View) (number : ℕ) (board after : BoardView P) (me : Sat P) → IsTaken view board me → IsBoardOf view board → number ≡ view.number → AddsOwn number board after → Adds me.0 after
+  pub goes_back : (view : CallerView) (number : ℕ) (board after : BoardView P) (me : Sat P) → HasTakenBoard view board me → IsBoardOf view board → number ≡ view.number → AddsOwn number board after → Adds me.0 after
   goes_back view number board after me taken its same own =
       subst (λ view. Adds view after) (sym taken.view) (record {
         shape = own.shape ∙ its.shape;

@@ -21,12 +21,12 @@ use Rattle.board.specs.Facts.{AreFacts, AreSound}
 use Rattle.board.specs.Histories.{State, IsHeldBy, IsKnown, IsLegal, IsWaiting, caller_of, choices_of, state_of}
 use Rattle.board.specs.Verdicts.{IsBranchPairFor, IsSoundVerdict}
 use Rattle.board.proofs.Laws.{choices_stay, held_not_settled, holder_holds, held_open, open_inside, state_with, waiting_open}
-use Rattle.ticket_board.specs.declared.views.View.{View}
+use Rattle.ticket_board.specs.declared.views.CallerView.{CallerView}
 use Rattle.ticket_board.specs.Passes.{PassView, Begins, HasSeenMore, IsHolding, entries_by, turned}
 use Rattle.ticket_board.specs.Turns.{ChildrenFit, IsClaimed, IsGranted, IsSettledOn}
 use Rattle.ticket_board.specs.inner.Views.{after_turn, pass_of, view_in}
 use Rattle.ticket_board.specs.inner.Plays.{Sat, IsBoardOf}
-use Rattle.ticket_board.specs.inner.Turns.{AddsOwn, IsTaken}
+use Rattle.ticket_board.specs.inner.Turns.{AddsOwn, HasTakenBoard}
 use Rattle.ticket_board.proofs.Histories.{begins_longer, begins_with, by-append}
 
 -- a list that goes on contains what the rest does
@@ -77,8 +77,8 @@ holds_claimed history who id waits =
     ∙ get_or-set_same (state_of history).standings id (Held who) (Done settled.Closed) (open_inside (state_of history) id (waiting_open (state_of history) id waits))
 
 -- the pass after a turn
-pub ends : {P : Type 0} (table table' : TableId) (view : View) (views : List View) (board : BoardView P) (me : Sat P) (history : List Entry) (old : PassView) →
-    pass_of table view ≡ old → IsTaken view board me → table' ≡ table → views ≡ after_turn me.0 history ∷ [] → pass_of table' (view_in views) ≡ turned old history
+pub ends : {P : Type 0} (table table' : TableId) (view : CallerView) (views : List CallerView) (board : BoardView P) (me : Sat P) (history : List Entry) (old : PassView) →
+    pass_of table view ≡ old → HasTakenBoard view board me → table' ≡ table → views ≡ after_turn me.0 history ∷ [] → pass_of table' (view_in views) ≡ turned old history
 ends table table' view views board me history old seen taken same after =
     (λ i. pass_of (same i) (view_in (after i))) ∙ (λ i. pass_of table (after_turn (taken.view i) history)) ∙ ap (λ pass. turned pass history) seen
 
@@ -93,7 +93,7 @@ module _ {P : Type 0} (objective : Objective) (Backs : Shape → List Choice →
     pub own : entries_by old.number board.entries ≡ old.mine
     pub facts : AreFacts objective Backs board
 
-  pub knows : (table : TableId) (view : View) (board : BoardView P) (old : PassView) → pass_of table view ≡ old → IsBoardOf view board → AreFacts objective Backs board → IsKnownBoard old board
+  pub knows : (table : TableId) (view : CallerView) (board : BoardView P) (old : PassView) → pass_of table view ≡ old → IsBoardOf view board → AreFacts objective Backs board → IsKnownBoard old board
   knows table view board old seen its facts = subst (λ pass. IsKnownBoard pass board) seen (record { shape = its.shape; later = its.later; own = its.own; facts = facts })
 
   pub grants : (old : PassView) (board after : BoardView P) (branch : Branch) → IsKnownBoard old board → IsKnown (board_state board) branch → IsWaiting (board_state board) branch.id →

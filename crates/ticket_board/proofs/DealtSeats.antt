@@ -8,19 +8,19 @@ use Rattle.atomic_table.specs.Table.{Splits, opening}
 use Rattle.atomic_table.proofs.Lists.{at_longer}
 use Rattle.board.specs.Boards.{BoardView}
 use Rattle.ticket_board.specs.declared.views.Stage.TheVariants.{Idle}
-use Rattle.ticket_board.specs.declared.views.View.{View}
+use Rattle.ticket_board.specs.declared.views.CallerView.{CallerView}
 use Rattle.ticket_board.specs.inner.Views.{has_ticket, IsThere, first_view, dealer_after, dealt_next}
-use Rattle.ticket_board.specs.inner.Rules.{IsInQueue, IsOut, IsSeated, IsKept, tickets_out}
+use Rattle.ticket_board.specs.inner.Rules.{IsInQueue, IsOut, IsSeated, KeepsTicketRule, tickets_out}
 use Rattle.ticket_board.specs.inner.Dealing.{IsFounded}
 use Rattle.ticket_board.proofs.Histories.{begins_itself, nothing_begins}
-use Rattle.ticket_board.proofs.Seats.{weight, IsServingStage, tickets_set, tickets_with, each_set, each_with, out_stays}
+use Rattle.ticket_board.proofs.OtherSeats.{weight, IsServingStage, tickets_set, tickets_with, each_set, each_with, out_stays}
 
-one_seat : (K : ℕ → View → Type 0) (v : View) → K 0 v → (seat : ℕ) (u : View) → get_elem? (v ∷ []) seat ≡ some u → K seat u
+one_seat : (K : ℕ → CallerView → Type 0) (v : CallerView) → K 0 v → (seat : ℕ) (u : CallerView) → get_elem? (v ∷ []) seat ≡ some u → K seat u
 one_seat K v first zero u at = subst (K 0) (some-injective v u at) first
 one_seat K v first (suc seat) u at = absurd (some-ne-none u (sym at))
 
 module _ {P : Type 0} (start : BoardView P) (first : ℕ) where
-  pub opens : (callers : ℕ) → IsFounded start first callers → IsKept start first (opening (0 ∷ 0 ∷ []) (Some start ∷ []) (first_view start first))
+  pub opens : (callers : ℕ) → IsFounded start first callers → KeepsTicketRule start first (opening (0 ∷ 0 ∷ []) (Some start ∷ []) (first_view start first))
   opens callers founded =
       let some_caller = founded.some in
       let positive = founded.positive in
@@ -45,13 +45,13 @@ module _ {P : Type 0} (start : BoardView P) (first : ℕ) where
         unused = λ number above. founded.none_yet number (omega arith);
       }
 
-  pub deals : (me : ℕ) (v : View) → me ≡ 0 → v.stage ≡ Idle → 0 < v.dealt → v.dealt + 1 ≤ 1000 → v.number + v.dealt ≤ v.given →
-      Splits (IsKept start first) me v (dealer_after v) (dealt_next v)
+  pub deals : (me : ℕ) (v : CallerView) → me ≡ 0 → v.stage ≡ Idle → 0 < v.dealt → v.dealt + 1 ≤ 1000 → v.number + v.dealt ≤ v.given →
+      Splits (KeepsTicketRule start first) me v (dealer_after v) (dealt_next v)
   deals me v dealer idle some_dealt few room s r at =
-      let left : View = dealer_after v in
-      let right : View = dealt_next v in
-      let middle : List View = set s.views me left in
-      let views : List View = middle ++ right ∷ [] in
+      let left : CallerView = dealer_after v in
+      let right : CallerView = dealt_next v in
+      let middle : List CallerView = set s.views me left in
+      let views : List CallerView = middle ++ right ∷ [] in
       let light : weight v ≡ 0 = ap (λ stage. cond (has_ticket stage) 1 0) idle in
       let left_light : weight left ≡ 0 = light in
       let right_light : weight right ≡ 0 = light in
@@ -101,7 +101,7 @@ module _ {P : Type 0} (start : BoardView P) (first : ℕ) where
           own = its.own;
           deals = λ deals. absurd (other ((its.deals deals).0 ∙ sym dealer));
         }));
-        queue = subst (λ n. (seat : ℕ) (u : View) → get_elem? views seat ≡ some u → IsInQueue r.served (r.served + n) r.holder r.history s.homes seat u u.stage) same
+        queue = subst (λ n. (seat : ℕ) (u : CallerView) → get_elem? views seat ≡ some u → IsInQueue r.served (r.served + n) r.holder r.history s.homes seat u u.stage) same
             (each_with (λ seat u. IsInQueue r.served (r.served + tickets_out s.views) r.holder r.history s.homes seat u u.stage) middle right
             (subst (λ stage. IsInQueue r.served (r.served + tickets_out s.views) r.holder r.history s.homes (length middle) right stage) (sym idle) tt)
             (each_set (λ seat u. IsInQueue r.served (r.served + tickets_out s.views) r.holder r.history s.homes seat u u.stage) s.views me left

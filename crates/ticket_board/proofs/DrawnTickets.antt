@@ -7,23 +7,23 @@ use lib.ListN.{get_elem?}
 use Rattle.atomic_table.specs.Table.{State, step, keeps, Allows}
 use Rattle.board.specs.Boards.{BoardView}
 use Rattle.ticket_board.specs.declared.views.Stage.TheVariants.{Idle}
-use Rattle.ticket_board.specs.declared.views.View.{View}
+use Rattle.ticket_board.specs.declared.views.CallerView.{CallerView}
 use Rattle.ticket_board.specs.inner.Views.{has_ticket, IsThere, with_ticket}
-use Rattle.ticket_board.specs.inner.Rules.{IsInQueue, IsOut, IsSeated, IsKept, tickets_out}
+use Rattle.ticket_board.specs.inner.Rules.{IsInQueue, IsOut, IsSeated, KeepsTicketRule, tickets_out}
 use Rattle.ticket_board.specs.inner.Plays.{Sat, drew}
-use Rattle.ticket_board.proofs.Seats.{put, put_here, put_else, weight, IsServingStage, tickets_set, each_set, seated_set, queue_stays, stays_in_queue, out_stays}
+use Rattle.ticket_board.proofs.OtherSeats.{put, put_here, put_else, weight, IsServingStage, tickets_set, each_set, seated_set, queue_stays, stays_in_queue, out_stays}
 
 module _ {P : Type 0} (start : BoardView P) (first : ℕ) where
-  drawn_rule : (s : State (Option (BoardView P)) View) (r : IsKept start first s) (me : ℕ) (v : View) → v.stage ≡ Idle → get_elem? s.views me ≡ some v →
-      IsKept start first record {
+  drawn_rule : (s : State (Option (BoardView P)) CallerView) (r : KeepsTicketRule start first s) (me : ℕ) (v : CallerView) → v.stage ≡ Idle → get_elem? s.views me ≡ some v →
+      KeepsTicketRule start first record {
         words = set s.words 0 ((get_or s.words 0 0 + 1) % 2 ^ 64);
         homes = s.homes;
         views = set s.views me (with_ticket v (r.served + tickets_out s.views));
       }
   drawn_rule s r me v idle at =
       let drawn : ℕ = r.served + tickets_out s.views in
-      let w : View = with_ticket v drawn in
-      let views : List View = set s.views me w in
+      let w : CallerView = with_ticket v drawn in
+      let views : List CallerView = set s.views me w in
       let holder : ℕ → ℕ = put r.holder drawn me in
       let light : weight v ≡ 0 = ap (λ stage. cond (has_ticket stage) 1 0) idle in
       let counted : tickets_out views + weight v ≡ tickets_out s.views + 1 = tickets_set s.views me v w at in
@@ -63,7 +63,7 @@ module _ {P : Type 0} (start : BoardView P) (first : ℕ) where
       }
 
   pub draws : (slots me : ℕ) (sat : Sat P) → sat.0.stage ≡ Idle →
-      Allows (IsKept start first) slots me sat 0 (λ n. (n + 1) % 2 ^ 64) (drew (step slots 0 1 0 none) sat)
+      Allows (KeepsTicketRule start first) slots me sat 0 (λ n. (n + 1) % 2 ^ 64) (drew (step slots 0 1 0 none) sat)
   draws slots me sat idle s r sized at small = (
     with_ticket sat.0 (r.served + tickets_out s.views),
     keeps,

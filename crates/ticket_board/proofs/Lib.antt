@@ -1,7 +1,7 @@
 pub mod Histories
-pub mod Seats
-pub mod Slots
-pub mod Belonging
+pub mod OtherSeats
+pub mod HeldSlots
+pub mod PassesOfBoard
 pub mod DrawnTickets
 pub mod ServedTickets
 pub mod PassedTurns

@@ -7,7 +7,7 @@ use Rattle.board.specs.declared.entries.Entry.{Entry}
 use Rattle.board.specs.Boards.{BoardView}
 use Rattle.board.specs.Facts.{AreByCallers}
 use Rattle.board.specs.Histories.{IsLegal, caller_of}
-use Rattle.ticket_board.specs.Passes.{AreNewcomers, Home, PassView, entries_by, newcomer}
+use Rattle.ticket_board.specs.Passes.{AreNewcomers, BoardHome, PassView, entries_by, new_pass}
 use Rattle.ticket_board.specs.inner.Dealing.{IsFounded}
 
 -- a number that was not given has no entry
@@ -39,10 +39,10 @@ get_last : (passes : List PassView) (last : PassView) → slice_get (passes ++ l
 get_last [] last = refl
 get_last (pass ∷ passes) last = get_last passes last
 
-pub no_newcomers : (home : Home) (first : ℕ) (seen : List Entry) → AreNewcomers home first 0 seen []
+pub no_newcomers : (home : BoardHome) (first : ℕ) (seen : List Entry) → AreNewcomers home first 0 seen []
 no_newcomers home first seen = record { count = refl; each = λ k below. absurd (omega arith) }
 
-pub newcomers_with : (home : Home) (first callers : ℕ) (seen : List Entry) (passes : List PassView) (last : PassView) → AreNewcomers home first callers seen passes → last ≡ newcomer home (first + callers) seen →
+pub newcomers_with : (home : BoardHome) (first callers : ℕ) (seen : List Entry) (passes : List PassView) (last : PassView) → AreNewcomers home first callers seen passes → last ≡ new_pass home (first + callers) seen →
     AreNewcomers home first (callers + 1) seen (passes ++ last ∷ [])
 newcomers_with home first callers seen passes last are is =
     let count = are.count in
@@ -51,23 +51,23 @@ newcomers_with home first callers seen passes last are is =
       each = λ k below. by_place k below (cases_lt k callers);
     }
   where
-    by_place : (k : ℕ) → k < callers + 1 → (k < callers) ⊎ (callers ≤ k) → slice_get (passes ++ last ∷ []) k ≡ Some (newcomer home (first + k) seen)
+    by_place : (k : ℕ) → k < callers + 1 → (k < callers) ⊎ (callers ≤ k) → slice_get (passes ++ last ∷ []) k ≡ Some (new_pass home (first + k) seen)
     by_place k below (inl before) = let count = are.count in get_before passes last k (omega arith) ∙ are.each k before
     by_place k below (inr at_end) =
         let count = are.count in
         let here : k ≡ length passes = omega arith in
         let number : callers ≡ k = omega arith in
-        ap (slice_get (passes ++ last ∷ [])) here ∙ get_last passes last ∙ ap (λ (pass : PassView). Some pass) (is ∙ ap (λ k. newcomer home (first + k) seen) number)
+        ap (slice_get (passes ++ last ∷ [])) here ∙ get_last passes last ∙ ap (λ (pass : PassView). Some pass) (is ∙ ap (λ k. new_pass home (first + k) seen) number)
 
-pub newcomers_before : (home : Home) (first callers : ℕ) (seen : List Entry) (passes : List PassView) (pass : PassView) → AreNewcomers home (first + 1) callers seen passes → pass ≡ newcomer home first seen →
+pub newcomers_before : (home : BoardHome) (first callers : ℕ) (seen : List Entry) (passes : List PassView) (pass : PassView) → AreNewcomers home (first + 1) callers seen passes → pass ≡ new_pass home first seen →
     AreNewcomers home first (callers + 1) seen (pass ∷ passes)
 newcomers_before home first callers seen passes pass are is = let count = are.count in record {
   count = omega arith;
   each = by_place;
 }
   where
-    by_place : (k : ℕ) → k < callers + 1 → slice_get (pass ∷ passes) k ≡ Some (newcomer home (first + k) seen)
-    by_place zero below = let same : first ≡ first + 0 = omega arith in ap (λ (pass : PassView). Some pass) (is ∙ ap (λ number. newcomer home number seen) same)
+    by_place : (k : ℕ) → k < callers + 1 → slice_get (pass ∷ passes) k ≡ Some (new_pass home (first + k) seen)
+    by_place zero below = let same : first ≡ first + 0 = omega arith in ap (λ (pass : PassView). Some pass) (is ∙ ap (λ number. new_pass home number seen) same)
     by_place (suc k) below =
         let same : first + 1 + k ≡ first + suc k = omega arith in
-        are.each k (omega arith) ∙ ap (λ number. Some (newcomer home number seen)) same
+        are.each k (omega arith) ∙ ap (λ number. Some (new_pass home number seen)) same

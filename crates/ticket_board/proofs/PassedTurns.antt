@@ -9,15 +9,15 @@ use Rattle.atomic_table.specs.Table.{State, step, gives, Allows}
 use Rattle.board.specs.declared.entries.Entry.{Entry}
 use Rattle.board.specs.Boards.{BoardView}
 use Rattle.ticket_board.specs.declared.views.Stage.TheVariants.{Serving}
-use Rattle.ticket_board.specs.declared.views.View.{View}
+use Rattle.ticket_board.specs.declared.views.CallerView.{CallerView}
 use Rattle.ticket_board.specs.Passes.{Begins, entries_by}
 use Rattle.ticket_board.specs.inner.Views.{has_ticket, IsThere, after_turn}
-use Rattle.ticket_board.specs.inner.Rules.{IsInQueue, IsSeated, IsKept, tickets_out}
+use Rattle.ticket_board.specs.inner.Rules.{IsInQueue, IsSeated, KeepsTicketRule, tickets_out}
 use Rattle.ticket_board.specs.inner.Plays.{Sat, passed_on}
 use Rattle.ticket_board.specs.inner.Turns.{Adds}
 use Rattle.ticket_board.proofs.Histories.{begins_itself, begins_longer, begins_with, by-append}
-use Rattle.ticket_board.proofs.Slots.{one_inside}
-use Rattle.ticket_board.proofs.Seats.{Homes, weight, inside, tickets_set, each_set, seated_set, queue_stays, stays_in_queue}
+use Rattle.ticket_board.proofs.HeldSlots.{one_inside}
+use Rattle.ticket_board.proofs.OtherSeats.{Homes, weight, inside, tickets_set, each_set, seated_set, queue_stays, stays_in_queue}
 
 -- of a caller to which nothing was added there are the entries that there were
 by_unchanged : (number : ℕ) (front added whole : List Entry) → whole ≡ front ++ added → entries_by number added ≡ [] → entries_by number whole ≡ entries_by number front
@@ -25,16 +25,16 @@ by_unchanged number front added whole is none_added =
     ap (entries_by number) is ∙ by-append number front added ∙ ap (λ more. entries_by number front ++ more) none_added ∙ append-nil (entries_by number front)
 
 module _ {P : Type 0} (start : BoardView P) (first : ℕ) where
-  passed_rule : (s : State (Option (BoardView P)) View) (r : IsKept start first s) (me : ℕ) (v : View) (board : BoardView P) → v.stage ≡ Serving → Adds v board → get_elem? s.views me ≡ some v →
-      IsKept start first record {
+  passed_rule : (s : State (Option (BoardView P)) CallerView) (r : KeepsTicketRule start first s) (me : ℕ) (v : CallerView) (board : BoardView P) → v.stage ≡ Serving → Adds v board → get_elem? s.views me ≡ some v →
+      KeepsTicketRule start first record {
         words = set s.words 1 ((get_or s.words 1 0 + 1) % 2 ^ 64);
         homes = set s.homes 0 (some (Some board));
         views = set s.views me (after_turn v board.entries);
       }
   passed_rule s r me v board serves adds at =
       let drawn : ℕ = r.served + tickets_out s.views in
-      let w : View = after_turn v board.entries in
-      let views : List View = set s.views me w in
+      let w : CallerView = after_turn v board.entries in
+      let views : List CallerView = set s.views me w in
       let heavy : weight v ≡ 1 = ap (λ stage. cond (has_ticket stage) 1 0) serves in
       let counted : tickets_out views + weight v ≡ tickets_out s.views + 0 = tickets_set s.views me v w at in
       let same : drawn ≡ (r.served + 1) + tickets_out views = omega arith in
@@ -82,8 +82,8 @@ module _ {P : Type 0} (start : BoardView P) (first : ℕ) where
         unused = λ number above. by_unchanged number r.history adds.added board.entries whole (adds.no_other number (λ equal. omega arith)) ∙ r.unused number (omega arith);
       }
 
-  passes_at : (slots me : ℕ) (v : View) (board : BoardView P) → v.stage ≡ Serving → Adds v board →
-      Allows (IsKept start first) slots me (v, (0, Some board) ∷ []) 1 (λ n. (n + 1) % 2 ^ 64) (passed_on (step slots 1 1 0 none) (v, (0, Some board) ∷ []))
+  passes_at : (slots me : ℕ) (v : CallerView) (board : BoardView P) → v.stage ≡ Serving → Adds v board →
+      Allows (KeepsTicketRule start first) slots me (v, (0, Some board) ∷ []) 1 (λ n. (n + 1) % 2 ^ 64) (passed_on (step slots 1 1 0 none) (v, (0, Some board) ∷ []))
   passes_at slots me v board serves adds s r sized at small = (
     after_turn v board.entries,
     gives,
@@ -93,7 +93,7 @@ module _ {P : Type 0} (start : BoardView P) (first : ℕ) where
   )
 
   pub passes : (slots me : ℕ) (sat : Sat P) (board : BoardView P) → sat.0.stage ≡ Serving → sat.1 ≡ (0, Some board) ∷ [] → Adds sat.0 board →
-      Allows (IsKept start first) slots me sat 1 (λ n. (n + 1) % 2 ^ 64) (passed_on (step slots 1 1 0 none) sat)
+      Allows (KeepsTicketRule start first) slots me sat 1 (λ n. (n + 1) % 2 ^ 64) (passed_on (step slots 1 1 0 none) sat)
   passes slots me sat board serves slot adds =
-      subst (λ (held : List (ℕ × Option (BoardView P))). Allows (IsKept start first) slots me (sat.0, held) 1 (λ n. (n + 1) % 2 ^ 64) (passed_on (step slots 1 1 0 none) (sat.0, held)))
+      subst (λ (held : List (ℕ × Option (BoardView P))). Allows (KeepsTicketRule start first) slots me (sat.0, held) 1 (λ n. (n + 1) % 2 ^ 64) (passed_on (step slots 1 1 0 none) (sat.0, held)))
       (sym slot) (passes_at slots me sat.0 board serves adds)

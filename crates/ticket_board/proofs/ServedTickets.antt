@@ -11,12 +11,12 @@ use Rattle.atomic_table.specs.Table.{State, step, keeps, takes, Allows}
 use Rattle.atomic_table.proofs.Lists.{one_turn, set_again, set_here}
 use Rattle.board.specs.Boards.{BoardView, IsCaller}
 use Rattle.ticket_board.specs.declared.views.Stage.TheVariants.{Waiting, Serving}
-use Rattle.ticket_board.specs.declared.views.View.{View}
+use Rattle.ticket_board.specs.declared.views.CallerView.{CallerView}
 use Rattle.ticket_board.specs.Passes.{Begins, entries_by}
 use Rattle.ticket_board.specs.inner.Views.{has_ticket, IsThere, serving}
-use Rattle.ticket_board.specs.inner.Rules.{HoldsTicket, IsInQueue, IsOut, IsAtHome, IsSeated, IsKept, tickets_out}
+use Rattle.ticket_board.specs.inner.Rules.{HoldsTicket, IsInQueue, IsOut, IsAtHome, IsSeated, KeepsTicketRule, tickets_out}
 use Rattle.ticket_board.specs.inner.Plays.{Sat, IsBoardOf, watched}
-use Rattle.ticket_board.proofs.Seats.{Homes, weight, IsServingStage, inside, same_view, tickets_set, tickets_few, each_set, seated_set, queue_stays, stays_in_queue}
+use Rattle.ticket_board.proofs.OtherSeats.{Homes, weight, IsServingStage, inside, same_view, tickets_set, tickets_few, each_set, seated_set, queue_stays, stays_in_queue}
 
 -- what is in a slot that is at home
 module _ {P : Type 0} where
@@ -35,12 +35,12 @@ module _ {P : Type 0} where
 
 module _ {P : Type 0} (start : BoardView P) (first : ℕ) where
   -- the ticket that the seat holds
-  pub held : (s : State (Option (BoardView P)) View) (r : IsKept start first s) (me : ℕ) (v : View) → v.stage ≡ Waiting → get_elem? s.views me ≡ some v →
+  pub held : (s : State (Option (BoardView P)) CallerView) (r : KeepsTicketRule start first s) (me : ℕ) (v : CallerView) → v.stage ≡ Waiting → get_elem? s.views me ≡ some v →
       HoldsTicket r.served (r.served + tickets_out s.views) r.holder me v.ticket
   held s r me v waits at = subst (λ stage. IsInQueue r.served (r.served + tickets_out s.views) r.holder r.history s.homes me v stage) waits (r.queue me v at)
 
   -- the board at home is the one that the seat serves
-  pub is_its : (s : State (Option (BoardView P)) View) (r : IsKept start first s) (me : ℕ) (v : View) (home : IsAtHome start r.history s.homes) →
+  pub is_its : (s : State (Option (BoardView P)) CallerView) (r : KeepsTicketRule start first s) (me : ℕ) (v : CallerView) (home : IsAtHome start r.history s.homes) →
       IsSeated start first (length s.views) r.history me v → IsBoardOf v home.board
   is_its s r me v home known = record {
     shape = home.shape ∙ sym known.shape;
@@ -50,16 +50,16 @@ module _ {P : Type 0} (start : BoardView P) (first : ℕ) where
     own = ap (entries_by v.number) home.entries ∙ known.own;
   }
 
-  served_rule : (s : State (Option (BoardView P)) View) (r : IsKept start first s) (me : ℕ) (v : View) → v.stage ≡ Waiting → get_elem? s.views me ≡ some v →
+  served_rule : (s : State (Option (BoardView P)) CallerView) (r : KeepsTicketRule start first s) (me : ℕ) (v : CallerView) → v.stage ≡ Waiting → get_elem? s.views me ≡ some v →
       r.served ≡ v.ticket → (home : IsAtHome start r.history s.homes) →
-      IsKept start first record {
+      KeepsTicketRule start first record {
         words = set s.words 1 (get_or s.words 1 0);
         homes = set s.homes 0 none;
         views = set s.views me (serving v home.board.entries);
       }
   served_rule s r me v waits at its home =
-      let w : View = serving v home.board.entries in
-      let views : List View = set s.views me w in
+      let w : CallerView = serving v home.board.entries in
+      let views : List CallerView = set s.views me w in
       let heavy : weight v ≡ 1 = ap (λ stage. cond (has_ticket stage) 1 0) waits in
       let counted : tickets_out views + weight v ≡ tickets_out s.views + 1 = tickets_set s.views me v w at in
       let same : tickets_out s.views ≡ tickets_out views = omega arith in
@@ -100,7 +100,7 @@ module _ {P : Type 0} (start : BoardView P) (first : ℕ) where
         unused = λ number above. r.unused number (omega arith);
       }
 
-  served_now : (slots me : ℕ) (sat : Sat P) → sat.0.stage ≡ Waiting → (s : State (Option (BoardView P)) View) (r : IsKept start first s) → get_elem? s.views me ≡ some sat.0 →
+  served_now : (slots me : ℕ) (sat : Sat P) → sat.0.stage ≡ Waiting → (s : State (Option (BoardView P)) CallerView) (r : KeepsTicketRule start first s) → get_elem? s.views me ≡ some sat.0 →
       get_or s.words 1 0 ≡ sat.0.ticket % 2 ^ 64 → r.served ≡ sat.0.ticket
   served_now slots me sat waits s r at same =
       let holds = held s r me sat.0 waits at in
@@ -110,7 +110,7 @@ module _ {P : Type 0} (start : BoardView P) (first : ℕ) where
       let fewer = tickets_few s.views in
       one_turn r.served sat.0.ticket (2 ^ 64) from (omega arith) (sym (ap (λ words. get_or words 1 0) r.words) ∙ same)
 
-  pub watches : (slots me : ℕ) (sat : Sat P) → sat.0.stage ≡ Waiting → Allows (IsKept start first) slots me sat 1 (λ n. n) (watched (step slots 1 0 0 none) sat)
+  pub watches : (slots me : ℕ) (sat : Sat P) → sat.0.stage ≡ Waiting → Allows (KeepsTicketRule start first) slots me sat 1 (λ n. n) (watched (step slots 1 0 0 none) sat)
   watches slots me sat waits s r sized at small = dite (ℕ_discrete (get_or s.words 1 0) (sat.0.ticket % 2 ^ 64))
       (λ same.
       let its = served_now slots me sat waits s r at same in
@@ -126,13 +126,13 @@ module _ {P : Type 0} (start : BoardView P) (first : ℕ) where
         ),
       )) (λ (out : IsOut s.homes s.views (r.holder r.served)).
       let there : get_elem? s.views me ≡ some out.view = subst (λ seat. get_elem? s.views seat ≡ some out.view) (ap r.holder its ∙ alone) out.at in
-      let stage : sat.0.stage ≡ Serving = ap (λ (view : View). view.stage) (same_view s.views me sat.0 out.view at there) ∙ out.stage in
+      let stage : sat.0.stage ≡ Serving = ap (λ (view : CallerView). view.stage) (same_view s.views me sat.0 out.view at there) ∙ out.stage in
       absurd (subst IsServingStage (sym stage ∙ waits) tt)) r.slot)
       (λ other. (
         sat.0,
         keeps,
         tt,
-        subst (λ (x : List ℕ × List View). IsKept start first record { words = x.0; homes = s.homes; views = x.1 })
+        subst (λ (x : List ℕ × List CallerView). KeepsTicketRule start first record { words = x.0; homes = s.homes; views = x.1 })
             (λ i. (sym (set-get_or s.words 1 0) i, sym (set_again s.views me sat.0 at) i)) r,
         (λ same. absurd (other same), λ _. refl),
       ))

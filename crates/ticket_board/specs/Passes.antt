@@ -8,14 +8,14 @@ use Rattle.board.specs.declared.entries.Settled.{Settled as Outcome}
 use Rattle.board.specs.Histories.{IsLegal, caller_of}
 
 -- which ticket board it is, and the shape that its board was made with
-pub record Home : Type 0 where
+pub record BoardHome : Type 0 where
   pub table : TableId
   pub shape : Shape
 
 -- the ticket board to which the pass belongs, the number of its caller, the history that it has
 -- seen, its own entries, and how many turns it has taken
 pub record PassView : Type 0 where
-  pub home : Home
+  pub home : BoardHome
   pub number : ℕ
   pub seen : List Entry
   pub mine : List Entry
@@ -31,8 +31,8 @@ abbrev pub entries_by : ℕ → List Entry → List Entry
 entries_by number history = filter (λ entry. caller_of entry == number) history
 
 -- a new pass: it has no entry of its own, and has taken no turn
-abbrev pub newcomer : Home → ℕ → List Entry → PassView
-newcomer home number seen =
+abbrev pub new_pass : BoardHome → ℕ → List Entry → PassView
+new_pass home number seen =
     record { home = home; number = number; seen = seen; mine = []; turns = 0 }
 
 -- the pass after a turn that ended with this history
@@ -44,10 +44,10 @@ turned pass history = record pass {
 }
 
 -- the passes of `callers` new callers, in the order of their numbers, from `first` on
-pub record AreNewcomers (home : Home) (first callers : ℕ) (seen : List Entry) (passes : List PassView) :
+pub record AreNewcomers (home : BoardHome) (first callers : ℕ) (seen : List Entry) (passes : List PassView) :
     Type 0 where
   pub count : length passes ≡ callers
-  pub each : (k : ℕ) → k < callers → slice_get passes k ≡ Some (newcomer home (first + k) seen)
+  pub each : (k : ℕ) → k < callers → slice_get passes k ≡ Some (new_pass home (first + k) seen)
 
 -- the pass was answered that the branch is its own, and has not settled it
 pub record IsHolding (pass : PassView) (id : ℕ) : Type 0 where

@@ -14,7 +14,7 @@ use crate::meeting::{compare, join};
 use crate::passes::Pass;
 use crate::rules::{Founding, InTurns};
 use crate::turns::{begin_turn, end_turn, sit_down};
-use crate::views::View;
+use crate::views::CallerView;
 use atomic_table::Table;
 use board::{Board, Claim, SettleFault, Settled};
 use compact_types::{Branch, NoMemory};
@@ -27,14 +27,14 @@ use std::sync::Wait;
 /// takes a turn, in which the caller alone has the board.
 #[derive(Drop)]
 pub struct TicketBoard<P: Backing> {
-    pub(crate) table: Table<Option<Board<P>>, View, Founding<P>, InTurns, Global>,
+    pub(crate) table: Table<Option<Board<P>>, CallerView, Founding<P>, InTurns, Global>,
 }
 
 impl<P: Backing> Model for TicketBoard<P> {
-    ghost use Rattle.ticket_board.specs.Passes.{Home};
+    ghost use Rattle.ticket_board.specs.Passes.{BoardHome};
     ghost use Rattle.ticket_board.specs.inner.Rules.{IsSized};
 
-    ghost Value = { Home };
+    ghost Value = { BoardHome };
 
     ghost view = { λ board. record {
       table = board.table.shared.table_id;

@@ -8,7 +8,7 @@ ghost use Rattle.ticket_board.specs.inner.Rules.{IsSized};
 use crate::boards::TicketBoard;
 use crate::passes::Pass;
 use crate::plays::Deal;
-use crate::rules::{Desk, Founding, Place};
+use crate::rules::{Founding, Place, SharedBoard};
 use atomic_table::{Refused, Table};
 use board::Board;
 use compact_types::{Items, NoMemory};
@@ -63,7 +63,7 @@ fn enlist<P: Backing>(board: &mut Board<P>, callers: u32)
 /// The passes of all callers. The first seat deals the others out, and is the first caller's.
 fn deal<P: Backing>(
     alloc: Global,
-    desk: &Desk<P>,
+    desk: &SharedBoard<P>,
     dealer: Place<P>,
     first: u32,
     callers: u32,

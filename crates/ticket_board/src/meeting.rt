@@ -7,11 +7,11 @@ ghost use Rattle.ticket_board.specs.inner.Rules.{IsSized};
 ghost use Rattle.ticket_board.specs.inner.Views.{told_of};
 
 use crate::plays::{Compare, Meet};
-use crate::rules::{Desk, Place, SERVED};
+use crate::rules::{Place, SERVED, SharedBoard};
 use shape_graphs::Backing;
 
 /// Spends the other seat. What it had seen is noted, and tells nothing yet.
-pub(crate) fn join<P: Backing>(desk: &Desk<P>, seat: &mut Place<P>, other: Place<P>)
+pub(crate) fn join<P: Backing>(desk: &SharedBoard<P>, seat: &mut Place<P>, other: Place<P>)
     requires table { seat.old.table_id ≡ desk.now.table_id }
     requires other { other.table_id ≡ desk.now.table_id }
     requires sized { IsSized desk.now.table_id }
@@ -26,7 +26,7 @@ pub(crate) fn join<P: Backing>(desk: &Desk<P>, seat: &mut Place<P>, other: Place
 
 /// Compares what the seat has seen with what it noted: from now on it has seen the longer of the
 /// two, which the other begins.
-pub(crate) fn compare<P: Backing>(desk: &Desk<P>, seat: &mut Place<P>)
+pub(crate) fn compare<P: Backing>(desk: &SharedBoard<P>, seat: &mut Place<P>)
     requires table { seat.old.table_id ≡ desk.now.table_id }
     requires sized { IsSized desk.now.table_id }
     requires idle { seat.old.me.0.stage ≡ Idle }

@@ -1,6 +1,6 @@
 //! The pass of a caller.
 
-use crate::views::View;
+use crate::views::CallerView;
 use atomic_table::Badge;
 use std::marker::Model;
 
@@ -10,7 +10,7 @@ use std::marker::Model;
 #[derive(Drop)]
 pub struct Pass {
     pub(crate) number: u32,
-    pub(crate) badge: Badge<View>,
+    pub(crate) badge: Badge<CallerView>,
 }
 
 impl Model for Pass {

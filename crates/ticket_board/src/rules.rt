@@ -2,7 +2,7 @@
 //! that is served, both modulo 2^64. The one slot holds the board, and nothing while it is out in a
 //! turn.
 
-use crate::views::View;
+use crate::views::CallerView;
 use atomic_table::{Seat, Shared, TableRule};
 use board::Board;
 use shape_graphs::Backing;
@@ -27,17 +27,17 @@ pub(crate) struct Founding<P: Backing> {
 /// The callers take turns, in the order of their tickets.
 pub(crate) struct InTurns;
 
-impl<P: Backing> TableRule<Option<Board<P>>, View, Founding<P>> for InTurns {
-    ghost use Rattle.ticket_board.specs.inner.Rules.{IsKept};
+impl<P: Backing> TableRule<Option<Board<P>>, CallerView, Founding<P>> for InTurns {
+    ghost use Rattle.ticket_board.specs.inner.Rules.{KeepsTicketRule};
     ghost use Rattle.ticket_board.specs.inner.Views.{first_view};
 
-    ghost holds = { λ key. IsKept key.board.value key.first };
+    ghost holds = { λ key. KeepsTicketRule key.board.value key.first };
 
     ghost first = { λ key. first_view key.board.value key.first };
 }
 
 /// What the callers step on.
-pub(crate) type Desk<P> = Shared<Option<Board<P>>, View, Founding<P>, InTurns>;
+pub(crate) type SharedBoard<P> = Shared<Option<Board<P>>, CallerView, Founding<P>, InTurns>;
 
 /// A seat at the table.
-pub(crate) type Place<P> = Seat<Option<Board<P>>, View>;
+pub(crate) type Place<P> = Seat<Option<Board<P>>, CallerView>;

@@ -8,12 +8,12 @@ ghost use Rattle.board.specs.Histories.{IsLegal};
 ghost use Rattle.ticket_board.specs.declared.views.Stage.TheVariants.{Idle, Waiting};
 ghost use Rattle.ticket_board.specs.inner.Plays.{IsBoardOf, IsDrawn, IsServed};
 ghost use Rattle.ticket_board.specs.inner.Rules.{IsSized};
-ghost use Rattle.ticket_board.specs.inner.Turns.{Adds, CanPassOn, IsServing, IsTaken};
+ghost use Rattle.ticket_board.specs.inner.Turns.{Adds, CanPassOn, HasTakenBoard, IsServing};
 ghost use Rattle.ticket_board.specs.inner.Views.{IsResting, after_turn, view_in};
 
 use crate::plays::{Draw, PassOn, Watch};
-use crate::rules::{Desk, Place, SERVED, SLOT, TICKETS};
-use crate::views::View;
+use crate::rules::{Place, SERVED, SLOT, SharedBoard, TICKETS};
+use crate::views::CallerView;
 use atomic_table::Badge;
 use board::Board;
 use crossbeam_utils::Backoff;
@@ -25,14 +25,14 @@ use std::sync::Wait;
 /// out of the slot. The caller has both until the turn ends.
 pub(crate) fn begin_turn<P: Backing, R: Wait>(
     rt: &R,
-    desk: &Desk<P>,
-    badge: &mut Badge<View>,
+    desk: &SharedBoard<P>,
+    badge: &mut Badge<CallerView>,
 ) -> (Place<P>, Board<P>)
     requires table { badge.old.table_id ≡ desk.now.table_id }
     requires sized { IsSized desk.now.table_id }
     requires rests { IsResting badge.old.views }
     ensures table { result.0.table_id ≡ badge.old.table_id }
-    ensures taken { IsTaken (view_in badge.old.views) result.1 result.0.me }
+    ensures taken { HasTakenBoard (view_in badge.old.views) result.1 result.0.me }
     ensures its { IsBoardOf (view_in badge.old.views) result.1 }
     ensures facts { AreFacts P.objective P.backs result.1 }
 {
@@ -47,7 +47,11 @@ pub(crate) fn begin_turn<P: Backing, R: Wait>(
 
 /// Ends the turn: moves the board back into the slot, passes the turn on, and makes a badge of the
 /// seat again.
-pub(crate) fn end_turn<P: Backing>(desk: &Desk<P>, seat: Place<P>, board: Board<P>) -> Badge<View>
+pub(crate) fn end_turn<P: Backing>(
+    desk: &SharedBoard<P>,
+    seat: Place<P>,
+    board: Board<P>,
+) -> Badge<CallerView>
     requires table { seat.table_id ≡ desk.now.table_id }
     requires sized { IsSized desk.now.table_id }
     requires serves { IsServing seat.me None }
@@ -64,7 +68,7 @@ pub(crate) fn end_turn<P: Backing>(desk: &Desk<P>, seat: Place<P>, board: Board<
 }
 
 /// The seat of the badge, which is blank from now on.
-pub(crate) fn sit_down<P: Backing>(badge: &mut Badge<View>) -> Place<P>
+pub(crate) fn sit_down<P: Backing>(badge: &mut Badge<CallerView>) -> Place<P>
     requires { badge.old.views ≡ view_in badge.old.views ∷ [] }
     ensures table { result.table_id ≡ badge.old.table_id }
     ensures me { result.me ≡ (view_in badge.old.views, []) }
@@ -75,7 +79,7 @@ pub(crate) fn sit_down<P: Backing>(badge: &mut Badge<View>) -> Place<P>
 /// Waits until the next ticket would be served at once, so that few callers wait with a ticket in
 /// their hands: a ticket whose caller does not run holds up all later ones. The two loads teach
 /// nothing, so another caller may still draw first.
-fn approach<P: Backing, R: Wait>(rt: &R, desk: &Desk<P>)
+fn approach<P: Backing, R: Wait>(rt: &R, desk: &SharedBoard<P>)
     requires { IsSized desk.now.table_id }
 {
     let backoff = Backoff::new();
@@ -88,7 +92,7 @@ fn approach<P: Backing, R: Wait>(rt: &R, desk: &Desk<P>)
 }
 
 /// Draws a ticket.
-fn draw<P: Backing>(desk: &Desk<P>, seat: &mut Place<P>) -> u64
+fn draw<P: Backing>(desk: &SharedBoard<P>, seat: &mut Place<P>) -> u64
     requires table { seat.old.table_id ≡ desk.now.table_id }
     requires sized { IsSized desk.now.table_id }
     requires idle { seat.old.me.0.stage ≡ Idle }
@@ -99,7 +103,7 @@ fn draw<P: Backing>(desk: &Desk<P>, seat: &mut Place<P>) -> u64
 }
 
 /// Waits until the ticket is served.
-fn wait_for<P: Backing, R: Wait>(rt: &R, desk: &Desk<P>, seat: &mut Place<P>, ticket: u64)
+fn wait_for<P: Backing, R: Wait>(rt: &R, desk: &SharedBoard<P>, seat: &mut Place<P>, ticket: u64)
     requires table { seat.old.table_id ≡ desk.now.table_id }
     requires sized { IsSized desk.now.table_id }
     requires waits { seat.old.me.0.stage ≡ Waiting }
@@ -119,7 +123,7 @@ fn wait_for<P: Backing, R: Wait>(rt: &R, desk: &Desk<P>, seat: &mut Place<P>, ti
 }
 
 /// Moves the board out of the slot.
-fn move_out<P: Backing>(desk: &Desk<P>, seat: &mut Place<P>) -> Board<P>
+fn move_out<P: Backing>(desk: &SharedBoard<P>, seat: &mut Place<P>) -> Board<P>
     requires table { seat.old.table_id ≡ desk.now.table_id }
     requires full { (board : BoardView P) × IsServing seat.old.me (Some board) }
     ensures table { seat.new.table_id ≡ seat.old.table_id }
@@ -130,7 +134,7 @@ fn move_out<P: Backing>(desk: &Desk<P>, seat: &mut Place<P>) -> Board<P>
 }
 
 /// Moves the board into the slot.
-fn move_in<P: Backing>(desk: &Desk<P>, seat: &mut Place<P>, board: Board<P>)
+fn move_in<P: Backing>(desk: &SharedBoard<P>, seat: &mut Place<P>, board: Board<P>)
     requires table { seat.old.table_id ≡ desk.now.table_id }
     requires empty { IsServing seat.old.me None }
     ensures table { seat.new.table_id ≡ seat.old.table_id }
@@ -140,7 +144,7 @@ fn move_in<P: Backing>(desk: &Desk<P>, seat: &mut Place<P>, board: Board<P>)
 }
 
 /// Passes the turn on to the next ticket. The slot goes home with the board.
-fn pass_on<P: Backing>(desk: &Desk<P>, seat: &mut Place<P>)
+fn pass_on<P: Backing>(desk: &SharedBoard<P>, seat: &mut Place<P>)
     requires table { seat.old.table_id ≡ desk.now.table_id }
     requires sized { IsSized desk.now.table_id }
     requires full { CanPassOn seat.old.me }

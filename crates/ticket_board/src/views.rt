@@ -16,7 +16,7 @@ pub(crate) enum Stage {
 }
 
 /// What a seat knows. No value of it is made. Contracts read an array as a list, of any length.
-pub(crate) struct View {
+pub(crate) struct CallerView {
     pub stage: Stage,
     /// How many seats there are, in the one that deals the others out, and else 0.
     pub dealt: u64,

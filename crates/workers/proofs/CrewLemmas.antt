@@ -11,8 +11,8 @@ use Rattle.board.specs.Histories.{IsLegal, open_count_of, state_of}
 use Rattle.board.proofs.Laws.{nothing_opens_again}
 use Rattle.least_word.specs.declared.view.View.{View}
 use Rattle.least_word.specs.Views.{after_halt_load}
-use Rattle.least_word.specs.Seats.{Home as WordHome}
-use Rattle.ticket_board.specs.Passes.{AreNewcomers, Begins, Home, PassView}
+use Rattle.least_word.specs.Seats.{WordHome}
+use Rattle.ticket_board.specs.Passes.{AreNewcomers, Begins, BoardHome, PassView}
 use Rattle.workers.specs.declared.desks.Desk.{Desk}
 use Rattle.workers.specs.declared.hands.Hand.{Hand}
 use Rattle.workers.specs.Hands.{HasEndedWell, HasHalted, IsHandAt}
@@ -59,25 +59,25 @@ same_desks_further a b c first second = record {
 }
 
 -- a desk more
-desks_with : (board : Home) (word : WordHome) (desks : List Desk) (last : Desk) → AreDesksAt board word desks →
+desks_with : (board : BoardHome) (word : WordHome) (desks : List Desk) (last : Desk) → AreDesksAt board word desks →
     last.hand.pass.home ≡ board → last.hand.seat.home ≡ word → AreDesksAt board word (desks ++ last ∷ [])
 desks_with board word desks last all pass seat =
     let P = λ (desk : Desk). IsHandAt board word desk.hand in
     All-append P desks (last ∷ []) all (All-cons P last [] (record { pass = pass; seat = seat }) (All-nil P))
 
-pub desks_with_of : (board : Home) (word : WordHome) (desks : List Desk) (last : Desk) (whole : List Desk) → whole ≡ desks ++ last ∷ [] →
+pub desks_with_of : (board : BoardHome) (word : WordHome) (desks : List Desk) (last : Desk) (whole : List Desk) → whole ≡ desks ++ last ∷ [] →
     AreDesksAt board word desks → last.hand.pass.home ≡ board → last.hand.seat.home ≡ word → AreDesksAt board word whole
 desks_with_of board word desks last whole is all pass seat =
     subst (λ (l : List Desk). AreDesksAt board word l) (sym is) (desks_with board word desks last all pass seat)
 
 -- each of the new passes is one to their ticket board
-newcomers_at : (home : Home) (first callers : ℕ) (seen : List Entry) (passes : List PassView) → AreNewcomers home first callers seen passes →
+newcomers_at : (home : BoardHome) (first callers : ℕ) (seen : List Entry) (passes : List PassView) → AreNewcomers home first callers seen passes →
     All (λ pass. pass.home ≡ home) passes
 newcomers_at home first callers seen passes are k d below =
     let count = are.count in
     ap (λ (pass : PassView). pass.home) (get_or_from_slice_get passes k _ d (are.each k (omega arith)))
 
-pub newcomers_made : {E : Type 0} (first callers : ℕ) (seen : List Entry) (result : Result (Home × List PassView) E) →
+pub newcomers_made : {E : Type 0} (first callers : ℕ) (seen : List Entry) (result : Result (BoardHome × List PassView) E) →
     IfOk result (λ made. AreNewcomers made.0 first callers seen made.1) →
     IfOk result (λ made. All (λ (pass : PassView). pass.home ≡ made.0) made.1)
 newcomers_made first callers seen (Ok made) are = newcomers_at made.0 first callers seen made.1 are

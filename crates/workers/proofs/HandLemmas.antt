@@ -21,13 +21,13 @@ use Rattle.board.proofs.Laws.{choices_stay, known_stays, splits_have_children, s
 use Rattle.least_word.specs.declared.view.View.{View}
 use Rattle.least_word.specs.Seats.{SeatView}
 use Rattle.least_word.specs.Views.{after_load}
-use Rattle.steal_lanes.specs.States.{DequeId, Home as LaneHome, LaneState}
+use Rattle.steal_lanes.specs.States.{DequeId, LaneHome, LaneState}
 use Rattle.ticket_board.specs.Passes.{Begins, HasSeenMore, PassView}
 use Rattle.ticket_board.specs.Turns.{IsClaimed, IsGranted, IsSettledOn}
 use Rattle.workers.specs.declared.hands.Hand.{Hand}
 use Rattle.workers.specs.declared.hands.Other.{Other}
 use Rattle.workers.specs.Hands.{HasEndedWell, HasHalted, HasWorked, MayEnd, IsQuiet, IsSameHand, lane_of, put_after, put_after_all}
-use Rattle.workers.specs.inner.Lives.{IsGoing, IsStopped, halting}
+use Rattle.workers.specs.inner.Lives.{IsGoing, IsOutOfMemory, halting}
 use Rattle.workers.specs.inner.Sharing.{HasPut, child_of, children_to_put}
 
 -- histories that grow
@@ -102,7 +102,7 @@ going_further a b c first second = record {
   quiet = quiet_further a.seat.view b.seat.view c.seat.view first.quiet second.quiet;
 }
 
-pub stopped_further : (a b c : Hand) → IsGoing a b → IsStopped b c → IsStopped a c
+pub stopped_further : (a b c : Hand) → IsGoing a b → IsOutOfMemory b c → IsOutOfMemory a c
 stopped_further a b c first second = record { left = second.left; worked = worked_further a b c second.left first.worked second.worked }
 
 -- a step that asks for no put and makes none
@@ -197,7 +197,7 @@ module _ (hand : Hand) (branch : Branch) (pass : PassView) (more : HasSeenMore h
       going_by_read (going_by_seat (record hand { pass = pass; seat = read }) seat home quiet)
 
 -- memory was refused before anything had to be put
-pub stopped_where_going : (old new : Hand) → IsGoing old new → IsStopped old new
+pub stopped_where_going : (old new : Hand) → IsGoing old new → IsOutOfMemory old new
 stopped_where_going old new going = record { left = []; worked = going.worked }
 
 -- what a steal leaves of the ways into other lanes
@@ -310,7 +310,7 @@ module _ {P : Type 0} (objective : Objective) (Backs : Shape → List Choice →
         (subst (λ (l : List Branch). All (IsKnown (state_of pass.seen)) l) (sym put.in_order) all_known);
   }
 
-  pub stopped_by_settle : IsStopped hand (record hand { pass = pass; lane = lane })
+  pub stopped_by_settle : IsOutOfMemory hand (record hand { pass = pass; lane = lane })
   stopped_by_settle = record { left = map (λ (child : Branch). child.id) left; worked = worked_by_settle }
 
   pub going_by_settle : left ≡ [] → IsGoing hand (record hand { pass = pass; lane = lane })
@@ -324,7 +324,7 @@ module _ {P : Type 0} (objective : Objective) (Backs : Shape → List Choice →
 pub ended_well : (old new : Hand) → IsGoing old new → MayEnd new → HasEndedWell old new
 ended_well old new going end = record { worked = going.worked; quiet = going.quiet; may_end = end }
 
-has_halted : (old stopped new : Hand) → IsStopped old stopped → new ≡ halting stopped → HasHalted old new
+has_halted : (old stopped new : Hand) → IsOutOfMemory old stopped → new ≡ halting stopped → HasHalted old new
 has_halted old stopped new is same = subst (λ (hand : Hand). HasHalted old hand) (sym same) here
   where
     here : HasHalted old (halting stopped)
@@ -352,7 +352,7 @@ has_halted old stopped new is same = subst (λ (hand : Hand). HasHalted old hand
       heard = refl;
     }
 
-pub halted_on_err : {T E : Type 0} (result : Result T E) (old stopped new : Hand) → OnErr result (IsStopped old stopped) →
+pub halted_on_err : {T E : Type 0} (result : Result T E) (old stopped new : Hand) → OnErr result (IsOutOfMemory old stopped) →
     OnErr result (new ≡ halting stopped) → OnErr result (HasHalted old new)
 halted_on_err (Ok value) old stopped new is same = tt
 halted_on_err (Err error) old stopped new is same = has_halted old stopped new is same

@@ -12,12 +12,12 @@ use Rattle.board.specs.declared.entries.Settled.TheVariants.{Closed}
 use Rattle.board.specs.declared.standings.Standing.TheVariants.{Done, Held, Waiting}
 use Rattle.board.specs.Histories.{IsWaiting, State, after, branch_count, opened, replayed, standing_of, standings_opened, state_of}
 use Rattle.board.proofs.Laws.{replayed-append, state_with}
-use Rattle.ticket_board.specs.Passes.{Begins, HasSeenMore, Home as BoardHome, PassView}
+use Rattle.ticket_board.specs.Passes.{Begins, BoardHome, HasSeenMore, PassView}
 use Rattle.ticket_board.specs.Turns.{IsClaimed}
 use Rattle.workers.specs.declared.hands.Hand.{Hand}
-use Rattle.least_word.specs.Seats.{Home as WordHome}
+use Rattle.least_word.specs.Seats.{WordHome}
 use Rattle.workers.specs.Hands.{IsHandAt, IsTakenUp}
-use Rattle.workers.specs.inner.Lives.{IsGoing, IsLiving, IsStopped}
+use Rattle.workers.specs.inner.Lives.{IsGoing, IsLiving, IsOutOfMemory}
 use Rattle.workers.proofs.HandLemmas.{going_further, known_later}
 
 -- a branch that does not wait does not wait after an entry
@@ -100,7 +100,7 @@ living_further old mid new start living going = record {
 }
 
 -- or it is stopped
-pub begun_where_stopped : (old mid new : Hand) (start : Option Branch) → IsLiving old start mid → IsStopped mid new →
+pub begun_where_stopped : (old mid new : Hand) (start : Option Branch) → IsLiving old start mid → IsOutOfMemory mid new →
     MatchOption start (Unit {0}) (λ branch. IsTakenUp old.pass branch new.pass)
 begun_where_stopped old mid new start living stopped =
     begun_further old.pass mid.pass new.pass start living.going.worked.seen stopped.worked.seen living.begun

@@ -7,9 +7,9 @@ use Rattle.board.specs.declared.entries.Entry.TheVariants as entries
 use Rattle.board.specs.declared.entries.Settled.TheVariants.{Split, Closed, Improved}
 use Rattle.board.specs.Histories.{IsKnown, IsWaiting, open_count_of, state_of}
 use Rattle.least_word.specs.declared.view.View.{View}
-use Rattle.least_word.specs.Seats.{Home as WordHome}
-use Rattle.steal_lanes.specs.States.{DequeId, Home as LaneHome}
-use Rattle.ticket_board.specs.Passes.{Begins, Home as BoardHome, PassView}
+use Rattle.least_word.specs.Seats.{WordHome}
+use Rattle.steal_lanes.specs.States.{DequeId, LaneHome}
+use Rattle.ticket_board.specs.Passes.{Begins, BoardHome, PassView}
 use Rattle.workers.specs.declared.hands.Hand.{Hand}
 use Rattle.workers.specs.declared.hands.Other.{Other}
 

@@ -1,4 +1,4 @@
-pub mod First
+pub mod FirstIncumbents
 pub mod Lives
 pub mod Sharing
 pub mod Turns

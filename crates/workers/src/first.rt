@@ -7,7 +7,7 @@ ghost use Rattle.compact_types.specs.Magnitudes.{AreWithin};
 ghost use Rattle.bars.specs.Solutions.{Fit, Solves};
 ghost use Rattle.shape_graphs.specs.Measures.{IsLeastKey};
 ghost use Rattle.board.specs.Facts.{IsDrawnKey};
-ghost use Rattle.workers.specs.inner.First.{IsFirstKey};
+ghost use Rattle.workers.specs.inner.FirstIncumbents.{IsFirstKey};
 
 use bars::Bars;
 use compact_types::{Extension, Key, NoMemory, Places};

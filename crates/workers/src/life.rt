@@ -2,7 +2,7 @@
 
 ghost use Rattle.std.specs.Prelude.{◌≡◌, IfOk, IfSome, MatchOption, OnErr, OnOk};
 ghost use Rattle.workers.specs.Hands.{AreFor, HasEndedWell, HasHalted, IsHandAt, IsTakenUp};
-ghost use Rattle.workers.specs.inner.Lives.{IsGoing, IsStopped, halting};
+ghost use Rattle.workers.specs.inner.Lives.{IsGoing, IsOutOfMemory, halting};
 ghost use Rattle.workers.specs.inner.Sharing.{IsReady};
 
 use crate::gates::Gate;
@@ -77,7 +77,7 @@ fn live<M: Measure, G: Gate, R: Wait>(
     ensures begun { MatchOption start (Unit {0}) (λ branch.
         IsTakenUp hand.old.pass branch hand.new.pass) }
     ensures ended { OnOk result (HasEndedWell hand.old hand.new) }
-    ensures stopped { OnErr result (IsStopped hand.old hand.new) }
+    ensures stopped { OnErr result (IsOutOfMemory hand.old hand.new) }
 {
     // The worker's own workspace. It is made for the first branch that the worker solves.
     let mut own: Option<M::Workspace> = None;
@@ -130,7 +130,7 @@ fn begin<M: Measure, G: Gate, R: Wait>(
     ensures begun { MatchOption start (Unit {0}) (λ branch.
         IsTakenUp hand.old.pass branch hand.new.pass) }
     ensures going { OnOk result (IsGoing hand.old hand.new) }
-    ensures stopped { OnErr result (IsStopped hand.old hand.new) }
+    ensures stopped { OnErr result (IsOutOfMemory hand.old hand.new) }
 {
     match start {
         Some(branch) => {

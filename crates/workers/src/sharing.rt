@@ -9,8 +9,8 @@ ghost use Rattle.steal_lanes.specs.Views.{with_branch};
 ghost use Rattle.ticket_board.specs.Turns.{ChildrenFit};
 ghost use Rattle.workers.specs.Hands.{IsQuiet};
 ghost use Rattle.workers.specs.inner.Sharing.{
+  HasOneMoreChoice,
   HasPut,
-  IsChildOf,
   IsReady,
   IsSolvedFor,
   IsStartFor,
@@ -108,7 +108,7 @@ fn share(lane: &mut Lane, branch: Branch, what: Settled) -> Result<Option<Branch
     ensures all { OnOk result (HasPut branch what [] lane.old lane.new) }
     ensures some { OnErr result
         ((left : List AnyBranch) × HasPut branch what left lane.old lane.new) }
-    ensures last { IfOk result (λ last. IfSome last (IsChildOf branch)) }
+    ensures last { IfOk result (λ last. IfSome last (HasOneMoreChoice branch)) }
 {
     match what {
         Settled::Split { first, s, t } => Ok(Some(share_children(lane, branch, first, s, t)?)),

@@ -11,7 +11,7 @@ ghost use Rattle.board.specs.Verdicts.{IsBranchPairFor, IsSoundVerdict};
 ghost use Rattle.ticket_board.specs.Passes.{HasSeenMore};
 ghost use Rattle.ticket_board.specs.Turns.{IsClaimed};
 ghost use Rattle.workers.specs.Hands.{AreFor, IsHandAt, IsTakenUp};
-ghost use Rattle.workers.specs.inner.Lives.{IsGoing, IsStopped};
+ghost use Rattle.workers.specs.inner.Lives.{IsGoing, IsOutOfMemory};
 ghost use Rattle.workers.specs.inner.Sharing.{IsReady, MayStart};
 
 use crate::branch::{Solved, solve_branch};
@@ -96,7 +96,7 @@ pub(crate) fn advance<M: Measure, G: Gate, R: Wait>(
     ensures ready { IfOk result (λ kept. IfSome kept (IsReady (M.Proof.backs bars.now))) }
     ensures taken { IsTakenUp hand.old.pass next.branch hand.new.pass }
     ensures going { OnOk result (IsGoing hand.old hand.new) }
-    ensures stopped { OnErr result (IsStopped hand.old hand.new) }
+    ensures stopped { OnErr result (IsOutOfMemory hand.old hand.new) }
 {
     let Next { branch, start } = next;
     let (claim, start) = claim_with_start(

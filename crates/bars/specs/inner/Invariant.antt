@@ -4,7 +4,7 @@ use Rattle.std.specs.List.{list_any, range_with_len}
 use Rattle.compact_types.specs.declared.places.Axis.TheVariants.{X, Y}
 use Rattle.compact_types.specs.declared.plan.Shape.{Shape}
 use Rattle.bars.specs.declared.lines.Lines.{Lines}
-use Rattle.bars.specs.declared.spans.Span.{Span}
+use Rattle.bars.specs.declared.spans.SegmentSpan.{SegmentSpan}
 use Rattle.bars.specs.Lines.{is_axis, row_of, column_of}
 use Rattle.bars.specs.Segments.{segment_count, segment_at}
 use Rattle.bars.specs.Solutions.{IsSound}
@@ -13,7 +13,7 @@ use Rattle.bars.specs.inner.Spans.{AreSpans}
 use Rattle.bars.specs.inner.Tables.{AreLines}
 
 -- the tables are those of the shape, and the first of its segments are rows
-pub record AreTables (shape : Shape) (rows columns : Lines) (spans : List Span) (row_segments : ℕ) (crossings : List Bool) : Type 0 where
+pub record AreTables (shape : Shape) (rows columns : Lines) (spans : List SegmentSpan) (row_segments : ℕ) (crossings : List Bool) : Type 0 where
   pub sound : IsSound shape
   pub in_rows : AreLines X shape rows
   pub in_columns : AreLines Y shape columns

@@ -2,7 +2,7 @@
 use Rattle.std.specs.Prelude.{◌≡◌, ◌↔◌, ℕ, ◌+◌, ◌*◌, ◌<◌, ◌≤◌, List, [], ◌∷◌, ◌++◌, length, reverse, slice_index_or, take}
 use Rattle.compact_types.specs.declared.search.Choice.{Choice}
 use Rattle.board.specs.declared.chains.Fork.{Fork}
-use Rattle.board.specs.declared.chains.Step.{Step}
+use Rattle.board.specs.declared.chains.StepUp.{StepUp}
 use Rattle.board.specs.Histories.{children_of}
 
 -- the choices of a branch of the list
@@ -28,13 +28,13 @@ abbrev pub HaveParents : List Fork → Type 0
 HaveParents forks = (k : ℕ) → k < length forks → (fork_at forks k).parent < 4 * k + 1
 
 -- the choices of the branch are those of its parent, which stands before it, and one more
-pub record IsStep (lists : List (List Choice)) (id : ℕ) (step : Step) : Type 0 where
+pub record IsStepUp (lists : List (List Choice)) (id : ℕ) (step : StepUp) : Type 0 where
   pub before : step.parent < id
   pub chain : chain_at lists id ≡ chain_at lists step.parent ++ step.choice ∷ []
 
 -- A walk up from a branch that compares its choices from the last on: the branch has these choices
 -- exactly where the branch that is reached has the first of them, which are left.
-pub record IsWalk (lists : List (List Choice)) (id : ℕ) (choices : List Choice) (at left : ℕ) :
+pub record IsChainWalk (lists : List (List Choice)) (id : ℕ) (choices : List Choice) (at left : ℕ) :
     Type 0 where
   pub below : at < length lists
   pub within : left ≤ length choices

@@ -36,7 +36,7 @@ owed_by standings = sum_by owed standings
 
 -- the branches are those of the history, there is room for all entries that they will add, and the
 -- facts of a board hold
-pub record IsKept {P : Type 0} (objective : Objective)
+pub record AreBoardTables {P : Type 0} (objective : Objective)
     (Backs : Shape → List Choice → P → Verdict P → Type 0)
     (board : BoardView P) (branches : State) (room : ℕ) : Type 0 where
   pub state : branches ≡ board_state board

@@ -55,10 +55,10 @@ abbrev pub later : List Choice → List (List Choice)
 later choices = later_from [] choices
 
 -- the branches that an entry opens do not have too many choices
-abbrev pub HasRoom : CertNode → List Choice → Type 0
-HasRoom (Split s t) choices = length choices < MOST_CHOICES
-HasRoom (Bound x y) choices = Unit {0}
-HasRoom (Cycle axis arcs) choices = Unit {0}
+abbrev pub HasRoomToSplit : CertNode → List Choice → Type 0
+HasRoomToSplit (Split s t) choices = length choices < MOST_CHOICES
+HasRoomToSplit (Bound x y) choices = Unit {0}
+HasRoomToSplit (Cycle axis arcs) choices = Unit {0}
 
 -- the branch at hand is the first of these
 pub record IsNext (shape : Shape) (branches : List (List Choice)) (branch : GrowingGraphs) :

@@ -82,7 +82,7 @@ ids_to_come (id ∷ ids) later = ids_to_come ids (id ∷ later)
 -- The entries begin the certificate for the board's incumbent, and the stack has the branches that
 -- are to come: with right entries for these the certificate is right, and with their entries it has
 -- those of all branches.
-pub record IsBegun (board : BoardView Flows) (nodes : List CertNode) (waiting : List ℕ) :
+pub record BeginsCertificate (board : BoardView Flows) (nodes : List CertNode) (waiting : List ℕ) :
     Type 0 where
   pub facts : AreFacts total_length DoBack board
   pub none_open : open_count_of (board_state board) ≡ 0
@@ -95,13 +95,13 @@ pub record IsBegun (board : BoardView Flows) (nodes : List CertNode) (waiting : 
 
 -- how much is left to do for some of so many branches, where a branch was split into four with
 -- greater numbers
-abbrev pub work_of : ℕ → List ℕ → ℕ
-work_of count [] = 0
-work_of count (id ∷ ids) = 5 ^ (count - id) + work_of count ids
+abbrev pub work_waiting : ℕ → List ℕ → ℕ
+work_waiting count [] = 0
+work_waiting count (id ∷ ids) = 5 ^ (count - id) + work_waiting count ids
 
 -- the certificate is begun, and less is left to do than for another stack
 pub record IsFurther (board : BoardView Flows) (nodes : List CertNode) (waiting before : List ℕ) :
     Type 0 where
-  pub begun : IsBegun board nodes waiting
-  pub less : work_of (branch_count (board_state board)) waiting
-      < work_of (branch_count (board_state board)) before
+  pub begun : BeginsCertificate board nodes waiting
+  pub less : work_waiting (branch_count (board_state board)) waiting
+      < work_waiting (branch_count (board_state board)) before

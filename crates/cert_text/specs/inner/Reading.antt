@@ -42,26 +42,26 @@ digits_from most before (b ∷ text) =
     else Some (before, b ∷ text)
 
 -- a number of at most so much: its digits go on as far as they can, but for those after a zero
-unfoldable pub number_of : ℕ → List ℕ → Front ℕ
-number_of most [] = None
-number_of most (b ∷ text) =
+unfoldable pub number_read : ℕ → List ℕ → Front ℕ
+number_read most [] = None
+number_read most (b ∷ text) =
     if b == ZERO then Some (0, text)
     else (if is_digit b then digits_from most (b - ZERO) text else None)
 
 -- a load whose arc is at least so great
-unfoldable pub load_of : ℕ → List ℕ → Front Load
-load_of least text = do
+unfoldable pub load_read : ℕ → List ℕ → Front Load
+load_read least text = do
   behind ← after_byte SPACE text
-  arc ← number_of MOST_NUMBER behind
+  arc ← number_read MOST_NUMBER behind
   more ← after_byte COLON arc.1
-  amount ← number_of MOST_AMOUNT more
+  amount ← number_read MOST_AMOUNT more
   if nat_le least arc.0 && nat_le 1 amount.0
       then Some (record { arc = arc.0; amount = amount.0 }, amount.1)
       else None
 
 -- an arc behind a space; it may be any one
 unfoldable pub arc_of : ℕ → List ℕ → Front ℕ
-arc_of least text = after_byte SPACE text >>= number_of MOST_NUMBER
+arc_of least text = after_byte SPACE text >>= number_read MOST_NUMBER
 
 -- an item that was found at the front, and those after it
 abbrev pub with_others : {A : Type 0} →
@@ -88,11 +88,11 @@ no_bound arc = 0
 
 -- loads by rising arcs, and what follows them
 unfoldable pub loads_of : List ℕ → List Load × List ℕ
-loads_of text = items_of load_of arc_after (length text) 0 text
+loads_of text = items_of load_read arc_after (length text) 0 text
 
 -- arcs, and what follows them
-unfoldable pub arcs_of : List ℕ → List ℕ × List ℕ
-arcs_of text = items_of arc_of no_bound (length text) 0 text
+unfoldable pub arcs_read : List ℕ → List ℕ × List ℕ
+arcs_read text = items_of arc_of no_bound (length text) 0 text
 
 -- the value, where nothing is left of the line
 abbrev pub at_end : {A : Type 0} → A → List ℕ → Option A
@@ -102,13 +102,13 @@ at_end value (b ∷ text) = None
 -- the rest of the line of a split, of a bound and of a cycle
 unfoldable pub split_of : List ℕ → Option CertNode
 split_of text = do
-  s ← number_of MOST_NUMBER text
+  s ← number_read MOST_NUMBER text
   more ← after_byte SPACE s.1
-  t ← number_of MOST_NUMBER more
+  t ← number_read MOST_NUMBER more
   at_end (Split s.0 t.0) t.1
 
-unfoldable pub bound_of : List ℕ → Option CertNode
-bound_of text = do
+unfoldable pub bound_read : List ℕ → Option CertNode
+bound_read text = do
   more ← after_word (codes " y") (loads_of text).1
   at_end (Bound (loads_of text).0 (loads_of more).0) (loads_of more).1
 
@@ -117,7 +117,7 @@ cycle_from axis ([], rest) = None
 cycle_from axis (arc ∷ arcs, rest) = at_end (Cycle axis (arc ∷ arcs)) rest
 
 unfoldable pub cycle_of : Axis → List ℕ → Option CertNode
-cycle_of axis text = cycle_from axis (arcs_of text)
+cycle_of axis text = cycle_from axis (arcs_read text)
 
 abbrev pub by_word : {A B : Type 0} → Option A → (A → B) → B → B
 by_word None value otherwise = otherwise
@@ -127,7 +127,7 @@ by_word (Some text) value otherwise = value text
 unfoldable pub entry_of : List ℕ → Option CertNode
 entry_of line =
     by_word (after_word (codes "#! split ") line) split_of
-    (by_word (after_word (codes "#! bound x") line) bound_of
+    (by_word (after_word (codes "#! bound x") line) bound_read
     (by_word (after_word (codes "#! cycle x") line) (cycle_of X)
     (by_word (after_word (codes "#! cycle y") line) (cycle_of Y) None)))
 
@@ -135,6 +135,6 @@ entry_of line =
 unfoldable pub head_of : List ℕ → Front ℕ
 head_of text = do
   number ← after_word (codes "#! compaction 1 pitch ") text
-  pitch ← number_of MOST_PITCH number
+  pitch ← number_read MOST_PITCH number
   after ← after_byte LINE_FEED pitch.1
   if nat_le 1 pitch.0 then Some (pitch.0, after) else None

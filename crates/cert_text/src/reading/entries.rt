@@ -1,7 +1,7 @@
 //! The entry of a line.
 
 ghost use Rattle.std.specs.Prelude.{◌≡◌, IfOk};
-ghost use Rattle.cert_text.specs.inner.Reading.{bound_of, cycle_of, entry_of, split_of};
+ghost use Rattle.cert_text.specs.inner.Reading.{bound_read, cycle_of, entry_of, split_of};
 
 use crate::reading::loads::{read_arcs, read_loads};
 use crate::reading::numbers::{after_byte, after_word, number_at};
@@ -44,9 +44,9 @@ fn split_in(text: &[u8]) -> Option<CertNode>
     })
 }
 
-#[tactic(auto, unfolding(crate::specs::inner::Reading::bound_of))]
+#[tactic(auto, unfolding(crate::specs::inner::Reading::bound_read))]
 fn bound_in(alloc: Global, text: &[u8]) -> Result<Option<CertNode>, NoMemory>
-    ensures { IfOk result (λ entry. entry ≡ bound_of text.now) }
+    ensures { IfOk result (λ entry. entry ≡ bound_read text.now) }
 {
     let mut x = Items::new(alloc);
     let after_x = read_loads(&mut x, text)?;

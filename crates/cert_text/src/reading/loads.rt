@@ -3,9 +3,9 @@
 ghost use Rattle.std.specs.Prelude.{◌≡◌, ◌+◌, ◌<◌, ◌≤◌, [], length};
 ghost use Rattle.std.specs.Prelude.{IfOk, IfSome, MatchOption};
 ghost use Rattle.cert_text.specs.declared.tree.TheConstants.{MOST_NUMBER};
-ghost use Rattle.cert_text.specs.inner.Reading.{arc_of, arcs_of, load_of, loads_of};
+ghost use Rattle.cert_text.specs.inner.Reading.{arc_of, arcs_read, load_read, loads_of};
 
-use crate::reading::numbers::{Number, after_byte, number_at};
+use crate::reading::numbers::{ReadNumber, after_byte, number_at};
 use crate::tree::{Load, MOST_NUMBER};
 use compact_types::{Items, NoMemory};
 use shape_graphs::MOST_AMOUNT;
@@ -37,11 +37,11 @@ pub(crate) fn read_loads<'a>(loads: &mut Items<Load>, text: &'a [u8]) -> Result<
 }
 
 /// The load at the front of the text, if its arc is at least `least`.
-#[tactic(auto, unfolding(crate::specs::inner::Reading::load_of))]
+#[tactic(auto, unfolding(crate::specs::inner::Reading::load_read))]
 fn load_at(text: &[u8], least: u32) -> Option<LoadFound<'_>>
     ensures load { MatchOption result
-        (load_of least text.now ≡ None)
-        (λ found. load_of least text.now ≡ Some (found.load, found.rest.now)) }
+        (load_read least text.now ≡ None)
+        (λ found. load_read least text.now ≡ Some (found.load, found.rest.now)) }
     ensures within { IfSome result (λ found. found.load.arc ≤ MOST_NUMBER) }
     ensures shorter { IfSome result (λ found. length found.rest.now < length text.now) }
 {
@@ -62,7 +62,7 @@ fn load_at(text: &[u8], least: u32) -> Option<LoadFound<'_>>
 /// Reads the arcs at the front of the text, each behind a space, and answers what follows them.
 pub(crate) fn read_arcs<'a>(arcs: &mut Items<u32>, text: &'a [u8]) -> Result<&'a [u8], NoMemory>
     requires { arcs.old ≡ [] }
-    ensures { IfOk result (λ rest. arcs_of text.now ≡ (arcs.new, rest.now)) }
+    ensures { IfOk result (λ rest. arcs_read text.now ≡ (arcs.new, rest.now)) }
 {
     let mut rest = text;
     while let Some(arc) = arc_at(rest) {
@@ -74,7 +74,7 @@ pub(crate) fn read_arcs<'a>(arcs: &mut Items<u32>, text: &'a [u8]) -> Result<&'a
 
 /// The arc at the front of the text, behind a space.
 #[tactic(auto, unfolding(crate::specs::inner::Reading::arc_of))]
-fn arc_at(text: &[u8]) -> Option<Number<'_>>
+fn arc_at(text: &[u8]) -> Option<ReadNumber<'_>>
     ensures arc { MatchOption result
         (arc_of 0 text.now ≡ None)
         (λ arc. arc_of 0 text.now ≡ Some (arc.value, arc.rest.now)) }

@@ -2,11 +2,11 @@
 
 ghost use Rattle.std.specs.Prelude.{◌≡◌, ◌≤◌, ◌<◌, length, MatchOption, IfSome, option_copied};
 ghost use Rattle.shape_graphs.specs.declared.graph.TheConstants.{MOST_AMOUNT};
-ghost use Rattle.cert_text.specs.inner.Reading.{after_byte, after_word, digits_from, number_of};
+ghost use Rattle.cert_text.specs.inner.Reading.{after_byte, after_word, digits_from, number_read};
 
 /// A number, and the text that follows it.
 #[derive(Clone, Copy)]
-pub(crate) struct Number<'a> {
+pub(crate) struct ReadNumber<'a> {
     pub(crate) value: u64,
     pub(crate) rest: &'a [u8],
 }
@@ -39,25 +39,25 @@ pub(crate) fn after_byte(text: &[u8], byte: u8) -> Option<&[u8]>
 
 /// The number at the front of the text: digits without a leading zero, with a value of at most
 /// `most`.
-#[tactic(auto, unfolding(crate::specs::inner::Reading::number_of))]
-pub(crate) fn number_at(text: &[u8], most: u64) -> Option<Number<'_>>
+#[tactic(auto, unfolding(crate::specs::inner::Reading::number_read))]
+pub(crate) fn number_at(text: &[u8], most: u64) -> Option<ReadNumber<'_>>
     requires least { 9 ≤ most }
     requires most { most ≤ MOST_AMOUNT }
     ensures number { MatchOption result
-        (number_of most text.now ≡ None)
-        (λ number. number_of most text.now ≡ Some (number.value, number.rest.now)) }
+        (number_read most text.now ≡ None)
+        (λ number. number_read most text.now ≡ Some (number.value, number.rest.now)) }
     ensures within { IfSome result (λ number. number.value ≤ most) }
     ensures shorter { IfSome result (λ number. length number.rest.now < length text.now) }
 {
     match text {
-        [b'0', rest @ ..] => Some(Number { value: 0, rest }),
+        [b'0', rest @ ..] => Some(ReadNumber { value: 0, rest }),
         [digit @ b'1'..=b'9', rest @ ..] => digits_at(u64::from(*digit - b'0'), rest, most),
         _ => None,
     }
 }
 
 /// The number that all the digits at the front of the text write, after those that write `before`.
-fn digits_at(before: u64, text: &[u8], most: u64) -> Option<Number<'_>>
+fn digits_at(before: u64, text: &[u8], most: u64) -> Option<ReadNumber<'_>>
     requires before { before ≤ most }
     requires most { most ≤ MOST_AMOUNT }
     ensures number { MatchOption result
@@ -75,5 +75,5 @@ fn digits_at(before: u64, text: &[u8], most: u64) -> Option<Number<'_>>
         }
         rest = after;
     }
-    Some(Number { value, rest })
+    Some(ReadNumber { value, rest })
 }

@@ -2,7 +2,8 @@
 
 ghost use Rattle.std.specs.Prelude.{◌≡◌, ◌↔◌, ◌+◌, ◌^◌, ◌<◌, [], ◌∷◌, ◌++◌, IfOk, IsTrue, OnOk};
 ghost use Rattle.cert_text.specs.inner.Outlines.{ComesFirst, HasFewAmounts, HasFirstKey};
-ghost use Rattle.cert_text.specs.inner.Outlines.{HasPointsOf, IsBegun, IsFurther, closing_of};
+ghost use Rattle.cert_text.specs.inner.Outlines.{BeginsCertificate, HasPointsOf, IsFurther};
+ghost use Rattle.cert_text.specs.inner.Outlines.{closing_of};
 ghost use Rattle.cert_text.specs.inner.Positives.{HaveFewAmounts};
 ghost use Rattle.cert_text.specs.Trims.{bound_entry};
 
@@ -25,7 +26,7 @@ pub(crate) fn enter(
     id: u64,
 ) -> Result<(), NoMemory>
     requires best { best.now ≡ board.now.incumbent }
-    requires begun { IsBegun board.now nodes.old (waiting.old.items ++ id ∷ []) }
+    requires begun { BeginsCertificate board.now nodes.old (waiting.old.items ++ id ∷ []) }
     ensures { OnOk result
         (IsFurther board.now nodes.new waiting.new.items (waiting.old.items ++ id ∷ [])) }
 {
@@ -83,7 +84,7 @@ fn split(
     waiting: &mut Vec<u64>,
     id: u64,
 ) -> Result<(), NoMemory>
-    requires begun { IsBegun board.now nodes.old (waiting.old.items ++ id ∷ []) }
+    requires begun { BeginsCertificate board.now nodes.old (waiting.old.items ++ id ∷ []) }
     requires first { HasFirstKey board.now id }
     ensures { OnOk result
         (IsFurther board.now nodes.new waiting.new.items (waiting.old.items ++ id ∷ [])) }

@@ -5,20 +5,20 @@ use Rattle.compact_types.specs.Sums.{sum_to}
 use Rattle.shape_graphs.specs.declared.graph.Arc.{Arc}
 use Rattle.shape_graphs.specs.Flows.{amount_at, at_node, Balances, bound_of}
 use Rattle.diff_flow.specs.Amounts.{IsFlowOn}
-use Rattle.diff_flow.specs.declared.steps.Step.{Step}
+use Rattle.diff_flow.specs.declared.steps.ResidualArc.{ResidualArc}
 use Rattle.diff_flow.specs.inner.Steps.{along_at}
 use Rattle.diff_flow.specs.inner.Numbers.{height}
 use Rattle.diff_flow.specs.inner.Search.{AreFit}
 
 -- what comes in at a node minus what goes out, by the steps along so many arcs
-abbrev pub net_by : List Step → ℕ → List ℕ → ℕ → ℤ
+abbrev pub net_by : List ResidualArc → ℕ → List ℕ → ℕ → ℤ
 net_by steps arcs amounts node =
     sum_to (λ i. at_node (along_at steps i).to node (pos (amount_at amounts i))
     -ℤ at_node (along_at steps i).from node (pos (amount_at amounts i))) arcs
 
 -- with what the nodes lack added, and their excess taken away, the amounts balance as the given
 -- ones do
-abbrev pub IsSpread : ℕ → ℕ → List Step → List ℕ → List ℕ → List ℕ → List ℕ → Type 0
+abbrev pub IsSpread : ℕ → ℕ → List ResidualArc → List ℕ → List ℕ → List ℕ → List ℕ → Type 0
 IsSpread nodes arcs steps given amounts over want =
     (v : ℕ) → v < nodes →
     net_by steps arcs amounts v +ℤ pos (slice_index want v)
@@ -38,7 +38,7 @@ AreGiven arcs given = (i : ℕ) → i < arcs → amount_at given i ≤ 2 ^ 50
 
 -- Amounts on their way: numbers fit them, and some given amounts balance as they do but for
 -- excess and want.
-pub record IsRouting (nodes arcs limit : ℕ) (steps : List Step)
+pub record IsRouting (nodes arcs limit : ℕ) (steps : List ResidualArc)
     (amounts numbers over want : List ℕ) : Type 0 where
   pub even : AreEven nodes arcs amounts over want
   pub fit : AreFit nodes limit steps amounts numbers want
@@ -46,13 +46,14 @@ pub record IsRouting (nodes arcs limit : ℕ) (steps : List Step)
       × IsSpread nodes arcs steps given amounts over want
 
 -- what balances as before, but for excess and want, still does
-abbrev pub IsKept : ℕ → ℕ → List Step → List ℕ → List ℕ → List ℕ → List ℕ → List ℕ → List ℕ → Type 0
-IsKept nodes arcs steps amounts over want amounts' over' want' =
+abbrev pub KeepsBalance : ℕ → ℕ → List ResidualArc → List ℕ → List ℕ → List ℕ → List ℕ → List ℕ →
+    List ℕ → Type 0
+KeepsBalance nodes arcs steps amounts over want amounts' over' want' =
     (given : List ℕ) → IsSpread nodes arcs steps given amounts over want →
     IsSpread nodes arcs steps given amounts' over' want'
 
 -- the amount is sent over the step: added on its arc, or taken away where the step goes against it
-pub record IsSent (step : Step) (amount : ℕ) (amounts amounts' : List ℕ) : Type 0 where
+pub record IsSent (step : ResidualArc) (amount : ℕ) (amounts amounts' : List ℕ) : Type 0 where
   pub one_for_each : length amounts' ≡ length amounts
   pub along : 0 < step.up → amount_at amounts' step.arc ≡ amount_at amounts step.arc + amount
   pub against : step.up ≡ 0 → amount_at amounts' step.arc + amount ≡ amount_at amounts step.arc
@@ -60,7 +61,7 @@ pub record IsSent (step : Step) (amount : ℕ) (amounts amounts' : List ℕ) : T
 
 -- The amount is moved from one node to another: only tight arcs have more than before, by the
 -- amount at most.
-pub record IsMoved (nodes arcs : ℕ) (steps : List Step) (amount start goal : ℕ)
+pub record IsMoved (nodes arcs : ℕ) (steps : List ResidualArc) (amount start goal : ℕ)
     (numbers amounts amounts' : List ℕ) : Type 0 where
   pub one_for_each : length amounts' ≡ length amounts
   pub net : (v : ℕ) → v < nodes → net_by steps arcs amounts' v +ℤ at_node start v (pos amount)
@@ -72,7 +73,7 @@ pub record IsMoved (nodes arcs : ℕ) (steps : List Step) (amount start goal : �
 
 -- Amounts on slack arcs below n are dropped: they are in excess at the nodes where the arcs begin,
 -- and lack where they end.
-pub record AreDropped (nodes arcs n : ℕ) (steps : List Step)
+pub record AreDropped (nodes arcs n : ℕ) (steps : List ResidualArc)
     (numbers amounts over want : List ℕ) : Type 0 where
   pub even : AreEven nodes arcs amounts over want
   pub low : sum over ≤ n * 2 ^ 50
@@ -82,7 +83,8 @@ pub record AreDropped (nodes arcs n : ℕ) (steps : List Step)
       ≡ height numbers (along_at steps i).from + (along_at steps i).up
 
 -- the arc has an amount, and the numbers more than meet it
-pub record IsSlack (arcs : ℕ) (steps : List Step) (amounts numbers : List ℕ) (i : ℕ) : Type 0 where
+pub record IsSlack (arcs : ℕ) (steps : List ResidualArc) (amounts numbers : List ℕ) (i : ℕ) :
+    Type 0 where
   pub inside : i < arcs
   pub some : 0 < amount_at amounts i
   pub more : height numbers (along_at steps i).from + (along_at steps i).up
@@ -90,7 +92,7 @@ pub record IsSlack (arcs : ℕ) (steps : List Step) (amounts numbers : List ℕ)
 
 -- The amounts balance as before, the arc has less than before, only tight arcs have more, by 1 at
 -- most.
-pub record IsDetour (nodes arcs : ℕ) (steps : List Step) (numbers amounts amounts' : List ℕ)
+pub record IsDetour (nodes arcs : ℕ) (steps : List ResidualArc) (numbers amounts amounts' : List ℕ)
     (i : ℕ) : Type 0 where
   pub one_for_each : length amounts' ≡ length amounts
   pub net : (v : ℕ) → v < nodes → net_by steps arcs amounts' v ≡ net_by steps arcs amounts v
@@ -101,7 +103,8 @@ pub record IsDetour (nodes arcs : ℕ) (steps : List Step) (numbers amounts amou
   pub most : (k : ℕ) → k < arcs → amount_at amounts' k ≤ amount_at amounts k + 1
 
 -- one number for each node, at most the limit, which meets each arc
-pub record AreFirst (nodes arcs limit : ℕ) (steps : List Step) (numbers : List ℕ) : Type 0 where
+pub record AreFirst (nodes arcs limit : ℕ) (steps : List ResidualArc) (numbers : List ℕ) :
+    Type 0 where
   pub one_for_each : length numbers ≡ nodes
   pub low : (v : ℕ) → v < nodes → height numbers v ≤ limit
   pub met : (k : ℕ) → k < arcs →

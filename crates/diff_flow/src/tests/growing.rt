@@ -2,7 +2,7 @@
 
 ghost use Rattle.std.specs.Prelude.{◌≡◌, length, IfOk};
 ghost use Rattle.shape_graphs.specs.Flows.{number_at};
-ghost use Rattle.diff_flow.specs.Walks.{AreLeastBefore, IsOneMore};
+ghost use Rattle.diff_flow.specs.Walks.{AreLeastBefore, HasOneMoreArc};
 
 use super::{Line, SPINE, case_of, is_flow_on};
 use crate::{Network, balanced};
@@ -20,7 +20,7 @@ struct Grown {
 
 /// The graph with one arc more, at its end.
 fn longer(graph: &DiffGraph, line: Line) -> Result<DiffGraph, Fail>
-    ensures { IfOk result (IsOneMore graph.now) }
+    ensures { IfOk result (HasOneMoreArc graph.now) }
 {
     let (from, to, least, pull) = line;
     let mut arcs = graph.arcs.copy()?;
@@ -71,7 +71,7 @@ fn there_and_back(
     numbers: &Items<i64>,
 ) -> Result<Option<Grown>, Fail>
     requires network { network.old ≡ graph.now }
-    requires more { IsOneMore graph.now longer.now }
+    requires more { HasOneMoreArc graph.now longer.now }
     requires one_for_each { length numbers.now ≡ graph.now.nodes }
     requires least { AreLeastBefore longer.now.nodes longer.now.arcs (number_at numbers.now) }
     ensures { IfOk result (λ _. network.new ≡ graph.now) }

@@ -12,8 +12,8 @@ abbrev pub IsOn : List Point → Piece → Point → Type 0
 IsOn points piece z = OnSegment (place points piece.from) (place points piece.to) z
 
 -- the points of the piece are those of its extent
-abbrev pub IsCovered : List Point → Covered → Type 0
-IsCovered points covered =
+abbrev pub HasPointsOfExtent : List Point → Covered → Type 0
+HasPointsOfExtent points covered =
     (z : Point) → (IsOn points covered.piece z → IsInside covered.extent z) × (IsInside covered.extent z → IsOn points covered.piece z)
 
 -- the pieces may share z, where their ends have these places

@@ -14,7 +14,7 @@ IsApart plan places i j =
     (z : Point) → OnPiece plan places i z → OnPiece plan places j z → MayShare plan places i j z
 
 -- each of the first n pieces is apart from all that follow it
-pub record AreApart (plan : Plan) (places : Places) (n : ℕ) : Type 0 where
+pub record ArePiecesApart (plan : Plan) (places : Places) (n : ℕ) : Type 0 where
   pub apart : (p q : ℕ) → p < n → p < q → q < length plan.pieces → IsApart plan places p q
 
 -- of all pieces after p the second of the meeting is the first that meets p

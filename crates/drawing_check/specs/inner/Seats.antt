@@ -5,20 +5,20 @@ use Rattle.compact_types.specs.declared.places.Point.{Point}
 use Rattle.compact_types.specs.declared.plan.Piece.{Piece}
 use Rattle.compact_types.specs.Lookups.{along, no_piece, piece_at}
 use Rattle.drawing_check.specs.declared.seats.Seat.{Seat}
-use Rattle.drawing_check.specs.declared.span.Extent.{Extent}
-use Rattle.drawing_check.specs.declared.span.Span.{Span}
-use Rattle.drawing_check.specs.inner.Collisions.{IsCovered, SharesAllowed}
+use Rattle.drawing_check.specs.declared.span.PieceExtent.{PieceExtent}
+use Rattle.drawing_check.specs.declared.span.Interval.{Interval}
+use Rattle.drawing_check.specs.inner.Collisions.{HasPointsOfExtent, SharesAllowed}
 use Rattle.drawing_check.specs.inner.Spans.{IsIn, IsInside}
 
 -- the seat that stands for one that is not there
-abbrev pub no_span : Span
-no_span = record { low = pos 0; high = pos 0 }
+abbrev pub no_interval : Interval
+no_interval = record { low = pos 0; high = pos 0 }
 
 abbrev pub no_seat : Seat
 no_seat = record {
   number = 0;
-  span = no_span;
-  covered = record { piece = no_piece; extent = record { x = no_span; y = no_span } };
+  span = no_interval;
+  covered = record { piece = no_piece; extent = record { x = no_interval; y = no_interval } };
 }
 
 abbrev pub seat_at : List Seat → ℕ → Seat
@@ -32,7 +32,7 @@ IsSpanned axis seat = (z : Point) → IsInside seat.covered.extent z → IsIn se
 pub record IsPlaced (axis : Axis) (points : List Point) (seat : Seat) : Type 0 where
   pub from_inside : seat.covered.piece.from < length points
   pub to_inside : seat.covered.piece.to < length points
-  pub covered : IsCovered points seat.covered
+  pub covered : HasPointsOfExtent points seat.covered
   pub spanned : IsSpanned axis seat
 
 -- the piece of the seat is the one of its number
@@ -40,22 +40,22 @@ abbrev pub HasItsPiece : List Piece → Seat → Type 0
 HasItsPiece pieces seat = seat.covered.piece ≡ piece_at pieces seat.number
 
 -- the seats are those of the first n pieces, by their numbers
-pub record AreNumbered (axis : Axis) (points : List Point) (pieces : List Piece) (n : ℕ) (seats : List Seat) : Type 0 where
+pub record AreSeatsOfPieces (axis : Axis) (points : List Point) (pieces : List Piece) (n : ℕ) (seats : List Seat) : Type 0 where
   pub one_for_each : length seats ≡ n
   pub number : (k : ℕ) → k < n → (seat_at seats k).number ≡ k
   pub own : (k : ℕ) → k < n → HasItsPiece pieces (seat_at seats k)
   pub placed : (k : ℕ) → k < n → IsPlaced axis points (seat_at seats k)
 
 -- the spans of the seats begin one after the other
-abbrev pub BeginInOrder : List Seat → Type 0
-BeginInOrder seats =
+abbrev pub SeatsBeginInOrder : List Seat → Type 0
+SeatsBeginInOrder seats =
     (j k : ℕ) → j < k → k < length seats → (seat_at seats j).span.low ≤ℤ (seat_at seats k).span.low
 
 -- along some axis the seats stand in the order in which they begin
 pub record CanSweep (points : List Point) (seats : List Seat) : Type 0 where
   pub axis : Axis
   pub placed : (k : ℕ) → k < length seats → IsPlaced axis points (seat_at seats k)
-  pub in_order : BeginInOrder seats
+  pub in_order : SeatsBeginInOrder seats
 
 -- and each piece has a seat
 pub record AreSeats (points : List Point) (pieces : List Piece) (seats : List Seat) : Type 0 where

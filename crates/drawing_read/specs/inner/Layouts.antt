@@ -4,14 +4,14 @@ use Rattle.std.specs.List.{flat_map}
 use Rattle.compact_types.specs.declared.places.Point.{Point}
 use Rattle.drawing_read.specs.declared.layout.Layout.{Layout}
 use Rattle.drawing_read.specs.Routes.{Route}
-use Rattle.drawing_read.specs.Spans.{bends_of, pieces_of, span_of, span_pieces}
+use Rattle.drawing_read.specs.Spans.{bends_of, edge_span, pieces_of, span_pieces}
 use Rattle.drawing_read.specs.Spans.{spans_from, spans_of, vertex_points}
 
 -- the new layout has one route more than the old one, whose bends are its last vertices
 pub record AddsRoute (nodes : List Point) (route : Route) (old new : Layout) : Type 0 where
   pub points : new.points ≡ old.points ++ bends_of nodes route
-  pub spans : new.spans ≡ old.spans ++ span_of nodes (length old.points) route ∷ []
-  pub pieces : new.pieces ≡ old.pieces ++ span_pieces (span_of nodes (length old.points) route)
+  pub spans : new.spans ≡ old.spans ++ edge_span nodes (length old.points) route ∷ []
+  pub pieces : new.pieces ≡ old.pieces ++ span_pieces (edge_span nodes (length old.points) route)
 
 -- the layout is that of all routes but these last ones
 pub record IsLaidButFor (nodes : List Point) (left all : List Route) (layout : Layout) :

@@ -13,14 +13,14 @@ use Rattle.drawing_read.specs.declared.refused.RefusedNumber.{RefusedNumber}
 use Rattle.drawing_read.specs.Faults.{both_numbers, refused_in, earlier}
 
 -- the one that stands first, of what was refused so far and of one more
-abbrev pub first_of : Option RefusedNumber → Option RefusedNumber → Option RefusedNumber
-first_of None more = more
-first_of (Some a) None = Some a
-first_of (Some a) (Some b) = Some (earlier a b)
+abbrev pub earlier_if_any : Option RefusedNumber → Option RefusedNumber → Option RefusedNumber
+earlier_if_any None more = more
+earlier_if_any (Some a) None = Some a
+earlier_if_any (Some a) (Some b) = Some (earlier a b)
 
 -- the same, where one more number is seen
 abbrev pub with_number : Option RefusedNumber → Number → Option RefusedNumber
-with_number best number = first_of best (refused_in number)
+with_number best number = earlier_if_any best (refused_in number)
 
 -- the same, where the numbers of one more place are seen
 abbrev pub with_numbers : Option RefusedNumber → Option Numbers → Option RefusedNumber
@@ -31,7 +31,7 @@ abbrev pub point_count : List Edge → ℕ
 point_count edges = sum_by (λ (edge : Edge). length edge.points) edges
 
 -- what is written in a graph is not too much to be counted
-pub record IsSmall (graph : Graph) : Type 0 where
+pub record CanBeCounted (graph : Graph) : Type 0 where
   pub nodes : length graph.nodes ≤ most_pairs
   pub edges : length graph.edges ≤ most_pairs
   pub points : All (λ (edge : Edge). length edge.points ≤ most_pairs) graph.edges

@@ -39,19 +39,19 @@ tens_below None = 0
 tens_below (Some e) = tens_below_by e.sign (digits_value e.digits)
 
 -- t is the number times ten to the power `above`, divided by ten to the power `below`
-abbrev pub IsRaised : (number above below t : ℕ) → Type 0
-IsRaised number above below t = t * 10 ^ below ≡ number * 10 ^ above
+abbrev pub IsDecimalShift : (number above below t : ℕ) → Type 0
+IsDecimalShift number above below t = t * 10 ^ below ≡ number * 10 ^ above
 
 -- the answer is that t, within the range, or says why there is none
 abbrev pub IsRaisedOrFault : (number above below : ℕ) → Result ℕ NumberFault → Type 0
 IsRaisedOrFault number above below (Ok t) =
-    IsRaised number above below t × (t ≤ GREATEST_THOUSANDTHS)
-IsRaisedOrFault number above below (Err TooFine) = (t : ℕ) → IsRaised number above below t → ⊥
+    IsDecimalShift number above below t × (t ≤ GREATEST_THOUSANDTHS)
+IsRaisedOrFault number above below (Err TooFine) = (t : ℕ) → IsDecimalShift number above below t → ⊥
 IsRaisedOrFault number above below (Err OutOfRange) =
-    (t : ℕ) × IsRaised number above below t × (GREATEST_THOUSANDTHS < t)
+    (t : ℕ) × IsDecimalShift number above below t × (GREATEST_THOUSANDTHS < t)
 
 -- these are left of the digits without the zeros at their end
-pub record IsKept (whole fraction kept_whole kept_fraction : List ℕ) : Type 0 where
+pub record IsWithoutEndZeros (whole fraction kept_whole kept_fraction : List ℕ) : Type 0 where
   pub whole_within : length kept_whole ≤ length whole
   pub fraction_within : length kept_fraction ≤ length fraction
   pub whole_digits : list_all is_digit kept_whole ≡ true

@@ -6,7 +6,8 @@ ghost use Rattle.std.specs.List.{list_all};
 ghost use Rattle.gml_text.specs.Bytes.{is_digit};
 ghost use Rattle.gml_text.specs.NumeralKinds.{is_exponent, exponent_of};
 ghost use Rattle.gml_text.specs.Numerals.{digits_value};
-ghost use Rattle.gml_text.specs.inner.Scaling.{tens_above, tens_below, IsRaisedOrFault, IsKept};
+ghost use Rattle.gml_text.specs.inner.Scaling.{tens_above, tens_below, IsRaisedOrFault};
+ghost use Rattle.gml_text.specs.inner.Scaling.{IsWithoutEndZeros};
 
 use super::NumberFault;
 use super::digits::{magnitude, magnitude_of, without_end_zeros};
@@ -51,7 +52,7 @@ pub(crate) fn scale_to_thousandths(
 fn leave_out_end_zeros<'a>(whole: &'a [u8], fraction: &'a [u8]) -> (&'a [u8], &'a [u8])
     requires whole { list_all is_digit whole.now ≡ true }
     requires fraction { list_all is_digit fraction.now ≡ true }
-    ensures { IsKept whole.now fraction.now result.0.now result.1.now }
+    ensures { IsWithoutEndZeros whole.now fraction.now result.0.now result.1.now }
 {
     let kept_fraction = without_end_zeros(fraction);
     if kept_fraction.is_empty() {

@@ -15,11 +15,12 @@ use compact_types::{Items, NoMemory, Refusal};
 use std::alloc::Global;
 
 /// Takes what stands at the front of `text`: a space, a comment, a `]`, a pair, or a key and a `[`.
-#[tactic(auto, unfolding(crate::specs::inner::Reading::step_of))]
+#[tactic(auto, unfolding(crate::specs::inner::Reading::reader_step))]
 pub(crate) fn step(alloc: Global, reader: Reader, text: &[u8]) -> Result<Reader, Refusal<GmlFault>>
     requires some { 0 < length text.now }
     requires within { reader.at + length text.now ≤ MOST_BYTES }
-    ensures step { machine.IsStep result (machine.step_of (machine.state_of reader) text.now) }
+    ensures step { machine.IsReaderStep result
+        (machine.reader_step (machine.reader_state reader) text.now) }
     ensures forward { machine.IsForward result (reader.at + 1) (reader.at + length text.now) }
 {
     let first = text[0];
@@ -40,7 +41,7 @@ pub(crate) fn step(alloc: Global, reader: Reader, text: &[u8]) -> Result<Reader,
 
 /// The tree, where the text ends outside all lists.
 pub(crate) fn finish(reader: Reader) -> Result<Tree, GmlFault>
-    ensures { result ≡ machine.finish (machine.state_of reader) }
+    ensures { result ≡ machine.finish (machine.reader_state reader) }
 {
     let mut parents = reader.parents;
     match parents.pop() {
@@ -65,8 +66,8 @@ fn refuse(at: u32, kind: GmlKind) -> Refusal<GmlFault>
 fn skip_comment(reader: Reader, text: &[u8]) -> Reader
     requires some { 0 < length text.now }
     requires within { reader.at + length text.now ≤ MOST_BYTES }
-    ensures step { machine.state_of result ≡
-        machine.after_comment (machine.state_of reader) text.now }
+    ensures step { machine.reader_state result ≡
+        machine.after_comment (machine.reader_state reader) text.now }
     ensures forward { (reader.at + 1 ≤ result.at) × (result.at ≤ reader.at + length text.now) }
 {
     let length = (length_before(text, LINE_FEED) + 1).min(text.len());
@@ -80,7 +81,7 @@ fn skip_comment(reader: Reader, text: &[u8]) -> Reader
 /// Ends the innermost open list at a `]`.
 fn close_list(reader: Reader) -> Result<Reader, Refusal<GmlFault>>
     requires { reader.at < MOST_BYTES }
-    ensures step { machine.IsStep result (machine.close_list (machine.state_of reader)) }
+    ensures step { machine.IsReaderStep result (machine.close_list (machine.reader_state reader)) }
     ensures forward { machine.IsForward result (reader.at + 1) (reader.at + 1) }
 {
     let mut parents = reader.parents;
@@ -105,7 +106,8 @@ fn close_list(reader: Reader) -> Result<Reader, Refusal<GmlFault>>
 /// Takes a key, and then its value or the `[` of its list.
 fn read_pair(alloc: Global, reader: Reader, text: &[u8]) -> Result<Reader, Refusal<GmlFault>>
     requires { reader.at + length text.now ≤ MOST_BYTES }
-    ensures step { machine.IsStep result (machine.read_pair (machine.state_of reader) text.now) }
+    ensures step { machine.IsReaderStep result
+        (machine.read_pair (machine.reader_state reader) text.now) }
     ensures forward { machine.IsForward result (reader.at + 1) (reader.at + length text.now) }
 {
     let (key, rest) = text.split_at(word_length(text));
@@ -126,8 +128,8 @@ fn read_value(
     text: &[u8],
 ) -> Result<Reader, Refusal<GmlFault>>
     requires { at + length text.now ≤ MOST_BYTES }
-    ensures step { machine.IsStep result
-        (machine.read_value (machine.state_of reader) key.now at text.now) }
+    ensures step { machine.IsReaderStep result
+        (machine.read_value (machine.reader_state reader) key.now at text.now) }
     ensures forward { machine.IsForward result at (at + length text.now) }
 {
     match text.first() {
@@ -156,8 +158,8 @@ fn read_string(
 ) -> Result<Reader, Refusal<GmlFault>>
     requires some { 0 < length text.now }
     requires within { at + length text.now ≤ MOST_BYTES }
-    ensures step { machine.IsStep result
-        (machine.read_string (machine.state_of reader) key.now at text.now) }
+    ensures step { machine.IsReaderStep result
+        (machine.read_string (machine.reader_state reader) key.now at text.now) }
     ensures forward { machine.IsForward result at (at + length text.now) }
 {
     let (_, inside) = text.split_at(1);
@@ -178,7 +180,8 @@ fn begin_list(
     at: u32,
 ) -> Result<Reader, Refusal<GmlFault>>
     requires { at < MOST_BYTES }
-    ensures step { machine.IsStep result (machine.begin_list (machine.state_of reader) key.now at) }
+    ensures step { machine.IsReaderStep result
+        (machine.begin_list (machine.reader_state reader) key.now at) }
     ensures forward { machine.IsForward result (at + 1) (at + 1) }
 {
     let mut parents = reader.parents;
@@ -208,8 +211,8 @@ fn read_numeral(
 ) -> Result<Reader, Refusal<GmlFault>>
     requires some { 0 < length text.now }
     requires within { at + length text.now ≤ MOST_BYTES }
-    ensures step { machine.IsStep result
-        (machine.read_numeral (machine.state_of reader) key.now at text.now) }
+    ensures step { machine.IsReaderStep result
+        (machine.read_numeral (machine.reader_state reader) key.now at text.now) }
     ensures forward { machine.IsForward result at (at + length text.now) }
 {
     let (word, _) = text.split_at(word_length(text));
@@ -233,8 +236,8 @@ fn add_pair(
     value: Value,
     end: u32,
 ) -> Result<Reader, NoMemory>
-    ensures { IfOk result (λ next. machine.state_of next ≡
-        machine.with_pair (machine.state_of reader)
+    ensures { IfOk result (λ next. machine.reader_state next ≡
+        machine.with_pair (machine.reader_state reader)
         (record { key = key.now; value = value; at = at }) end) }
 {
     let key = Items::from_slice(alloc, key)?;

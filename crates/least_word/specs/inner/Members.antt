@@ -21,7 +21,7 @@ abbrev pub no_shape : Shape
 no_shape = record { plan = no_plan; ways = []; one_for_each = refl }
 
 -- a seat in a thread's hand holds no slot, and was not joined to another
-pub record IsSeated (seat : TableSeat) : Type 0 where
+pub record IsSeatInHand (seat : TableSeat) : Type 0 where
   pub whole : IsSome seat.0.shape
   pub empty : seat.1 ≡ []
 

@@ -7,7 +7,7 @@ use Rattle.least_word.specs.declared.view.Member.{Member}
 use Rattle.least_word.specs.declared.view.View.{View}
 use Rattle.least_word.specs.declared.words.TheConstants.{GREATEST_WORTH, HALT_WORD, WORTH_WORD}
 use Rattle.least_word.specs.Views.{after_halt, after_halt_load, after_load, after_offer, new_view}
-use Rattle.least_word.specs.Words.{IsKept, IsStep, Words, halted_word, lowered}
+use Rattle.least_word.specs.Words.{IsStep, KeepsWordRule, Words, halted_word, lowered}
 
 -- a seat of the table, with the slots that it holds
 abbrev pub TableSeat : Type 0
@@ -30,7 +30,7 @@ pub record Holds (objective : Objective) (shape : Shape) (state : State (Unit {0
     Type 0 where
   pub words : Words
   pub are_words : state.words ≡ words.worth ∷ words.halt ∷ []
-  pub kept : IsKept objective shape words state.views
+  pub kept : KeepsWordRule objective shape words state.views
 
 -- the step found these words, and changed them and the seat's view in this way
 pub record Changes (objective : Objective) (of_words : Words → Words) (of_view : View → View)

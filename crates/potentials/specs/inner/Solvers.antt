@@ -14,9 +14,9 @@ use Rattle.shape_graphs.specs.Flows.{number_at}
 use Rattle.shape_graphs.specs.Graphs.{choice_arcs}
 use Rattle.shape_graphs.specs.Growing.{AreGrown}
 use Rattle.shape_graphs.specs.Measures.{IsFirstCyclic}
-use Rattle.diff_flow.specs.Walks.{AreWalksOf, IsOneMore}
+use Rattle.diff_flow.specs.Walks.{AreWalkLengthsOf, HasOneMoreArc}
 use Rattle.potentials.specs.declared.reached.Bounded.{Bounded}
-use Rattle.potentials.specs.declared.reached.Reached.{Reached}
+use Rattle.potentials.specs.declared.reached.FoundFlow.{FoundFlow}
 use Rattle.potentials.specs.declared.reached.Level.{Level}
 use Rattle.potentials.specs.declared.solver.AxisSolver.{AxisSolver}
 use Rattle.potentials.specs.declared.workspace.FlowWorkspace.{FlowWorkspace}
@@ -36,14 +36,14 @@ pub record IsBestOn (graph : DiffGraph) (best : Bounded) : Type 0 where
 
 -- what was found for the graph: a best flow, if there is one yet, and with it the least numbers
 -- that are tight for it, if they are known yet
-pub record IsReached (graph : DiffGraph) (reached : Reached) : Type 0 where
+pub record IsFoundFlow (graph : DiffGraph) (reached : FoundFlow) : Type 0 where
   pub best : IfSome reached.best (IsBestOn graph)
   pub numbers : IfSome reached.numbers (λ numbers.
       MatchOption reached.best ⊥ (λ best. AreLeastNumbers graph best.flow numbers))
 
 -- the second graph has one arc more, at its end, which does not pull: that of a choice
 pub record HasChoiceMore (graph more : DiffGraph) : Type 0 where
-  pub one : IsOneMore graph more
+  pub one : HasOneMoreArc graph more
   pub no_pull : one.last.pull ≡ pos 0
 
 -- each level holds for the graph before its arc came
@@ -51,13 +51,13 @@ pub data AreLevels : DiffGraph → List Level → Type 0 where
   no_level : (graph : DiffGraph) → AreLevels graph []
   one_more : (before graph : DiffGraph) (front : List Level) (level : Level) (levels : List Level) →
       levels ≡ front ++ level ∷ [] → HasChoiceMore before graph → IsSolvable before →
-      AreWalksOf before level.walks → IsReached before level.reached → AreLevels before front →
-      AreLevels graph levels
+      AreWalkLengthsOf before level.walks → IsFoundFlow before level.reached →
+      AreLevels before front → AreLevels graph levels
 
 -- the graph of the network has no cycle, and what the solver keeps is true of it
 pub record IsSolver (solver : AxisSolver) : Type 0 where
   pub solvable : IsSolvable solver.network
-  pub reached : IsReached solver.network solver.reached
+  pub reached : IsFoundFlow solver.network solver.reached
   pub levels : AreLevels solver.network solver.levels
 
 -- the numbers are the least that are tight for the flow on the graph without its last arc, that of
@@ -100,10 +100,11 @@ pub record IsWorkspaceOf (shape : Shape) (workspace : FlowWorkspace) : Type 0 wh
 
 -- how the workspace followed the choices: to the last of them; up to the last, with which a graph
 -- has a cycle; or less far
-abbrev pub IsFollowed : Shape → List Choice → FlowWorkspace → Followed → Type 0
-IsFollowed shape choices workspace All = workspace.graphs.choices ≡ choices
-IsFollowed shape choices workspace (Cyclic axis cycle) = IsFirstCyclic shape choices axis cycle.arcs
-IsFollowed shape choices workspace Not = Unit {0}
+abbrev pub HasFollowed : Shape → List Choice → FlowWorkspace → Followed → Type 0
+HasFollowed shape choices workspace All = workspace.graphs.choices ≡ choices
+HasFollowed shape choices workspace (Cyclic axis cycle) = IsFirstCyclic shape choices axis
+    cycle.arcs
+HasFollowed shape choices workspace Not = Unit {0}
 
 -- the choice was added to the workspace; or it was not, and with it the graph along its axis is
 -- the first that has a cycle, and this is one

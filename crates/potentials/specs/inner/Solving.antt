@@ -20,11 +20,11 @@ pub record BalancesOn (graph : DiffGraph) (flow : Flow) : Type 0 where
 
 -- the flow is one that a flow on the graph begins with: it balances on all of the graph, or on all
 -- but its last arc, which does not pull
-pub data IsBegun (graph : DiffGraph) (flow : Flow) : Type 0 where
-  on_all : BalancesOn graph flow → IsBegun graph flow
+pub data IsStartingFlow (graph : DiffGraph) (flow : Flow) : Type 0 where
+  on_all : BalancesOn graph flow → IsStartingFlow graph flow
   on_all_but_last : (arcs : List Arc) (last : Arc) → graph.arcs ≡ arcs ++ last ∷ [] →
       last.pull ≡ pos 0 → IsFlowOn arcs flow.amounts →
-      Balances graph.nodes arcs flow.amounts → IsBegun graph flow
+      Balances graph.nodes arcs flow.amounts → IsStartingFlow graph flow
 
 -- the flow balances on the graph, and its bound is this
 pub record IsBounded (graph : DiffGraph) (flow : Flow) (bound : ℤ) : Type 0 where

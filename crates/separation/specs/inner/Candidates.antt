@@ -18,8 +18,8 @@ comes_before c d =
     nat_lt c.open d.open || ((c.open == d.open) && (nat_lt c.s d.s || ((c.s == d.s) && nat_lt c.t d.t)))
 
 -- the first of two
-abbrev pub first_of : Candidate → Candidate → Candidate
-first_of best candidate = if comes_before candidate best then candidate else best
+abbrev pub first_candidate : Candidate → Candidate → Candidate
+first_candidate best candidate = if comes_before candidate best then candidate else best
 
 -- what the walk rests on
 pub record IsSetting (shape : Shape) (choices : List Choice) (places : Places) (reach : Reach) : Type 0 where

@@ -8,9 +8,9 @@ use Rattle.compact_types.specs.Orders.{IsPairBefore}
 use Rattle.bars.specs.Segments.{IsPair}
 use Rattle.bars.specs.Solutions.{IsChoice, choice_at}
 use Rattle.shape_graphs.specs.Separation.{IsSeparated}
-use Rattle.separation.specs.declared.extents.Extent.{Extent}
+use Rattle.separation.specs.declared.extents.SegmentExtent.{SegmentExtent}
 use Rattle.separation.specs.declared.sides.Reach.{Reach}
-use Rattle.separation.specs.Extensions.{AreBefore, IsLeastSide, IsSettled}
+use Rattle.separation.specs.Extensions.{AreBefore, IsLeastSide, IsPairSettled}
 use Rattle.separation.specs.Reaching.{IsReachOf}
 use Rattle.separation.specs.inner.Extents.{extent_at, AreExtents}
 
@@ -24,7 +24,7 @@ pub record AreChosen (shape : Shape) (reach : Reach) (choices : List Choice) (s 
   pub needed : (j : ℕ) → j < length choices →
       IsSeparated shape (take j choices) (choice_at choices j).s (choice_at choices j).t → ⊥
   pub settled : (u v : ℕ) → IsPair shape u v → IsPairBefore u v s t →
-      (j : ℕ) × IsSettled shape choices u v j
+      (j : ℕ) × IsPairSettled shape choices u v j
 
 -- each choice has the least side that holds in the places
 abbrev pub AreLeast : Shape → Places → List Choice → Type 0
@@ -33,13 +33,13 @@ AreLeast shape places choices =
     IsLeastSide shape places (choice_at choices j).s (choice_at choices j).t (choice_at choices j).side
 
 -- the least side that keeps two extents apart, and 3 where no lesser does
-abbrev pub least_side : Extent → Extent → ℕ
+abbrev pub least_side : SegmentExtent → SegmentExtent → ℕ
 least_side a b =
     if int_lt a.right b.left then 0
     else (if int_lt b.right a.left then 1 else (if int_lt a.high b.low then 2 else 3))
 
 -- how far the choices of a drawing's pairs have come, from some given choices on
-pub record AreChosenSince (shape : Shape) (extents : List Extent) (reach : Reach) (since choices : List Choice) (s t : ℕ) : Type 0 where
+pub record AreChosenSince (shape : Shape) (extents : List SegmentExtent) (reach : Reach) (since choices : List Choice) (s t : ℕ) : Type 0 where
   pub chosen : AreChosen shape reach choices s t
   pub least : (places : Places) → IsDrawing shape places → AreExtents shape places extents →
       ((k : ℕ) → k < length extents → (extent_at extents k).segment ≡ k) →

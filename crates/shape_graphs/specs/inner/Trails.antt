@@ -6,8 +6,8 @@ use Rattle.shape_graphs.specs.declared.graph.Arc.{Arc}
 use Rattle.shape_graphs.specs.declared.trail.Mark.{Mark}
 use Rattle.shape_graphs.specs.declared.trail.Mark.TheVariants.{Fresh, Walked, Left}
 use Rattle.shape_graphs.specs.declared.trail.Trail.{Trail}
-use Rattle.shape_graphs.specs.declared.trail.Found.{Found}
-use Rattle.shape_graphs.specs.declared.trail.Found.TheVariants.{Order, Cycle}
+use Rattle.shape_graphs.specs.declared.trail.OrderOrCycle.{OrderOrCycle}
+use Rattle.shape_graphs.specs.declared.trail.OrderOrCycle.TheVariants.{Order, Cycle}
 use Rattle.shape_graphs.specs.Arcs.{arc_at}
 use Rattle.shape_graphs.specs.Orders.{IsArcOrder}
 use Rattle.shape_graphs.specs.Paths.{IsCycle, step_arc}
@@ -88,7 +88,7 @@ StayLeft nodes before now =
     (v : ℕ) → v < nodes → mark_at before.marks v ≡ Left → mark_at now.marks v ≡ Left
 
 -- one step further: what holds still holds, what was left stays so, and less is to be done
-pub record IsStep (nodes : ℕ) (arcs : List Arc) (before now : Trail) : Type 0 where
+pub record IsTrailStep (nodes : ℕ) (arcs : List Arc) (before now : Trail) : Type 0 where
   pub trail : IsTrail nodes arcs now
   pub stay : StayLeft nodes before now
   pub met_stay : (v : ℕ) → v < nodes → mark_at now.marks v ≡ Fresh → mark_at before.marks v ≡ Fresh
@@ -117,6 +117,6 @@ pub record IsRound (arcs : List Arc) (walk : List ℕ) : Type 0 where
       (step_arc arcs walk k).from ≡ (step_arc arcs walk l).from → k ≡ l
 
 -- what was found: all arcs in topological order, or a cycle
-abbrev pub IsFound : List Arc → Found → Type 0
-IsFound arcs (Order order) = IsArcOrder arcs order
-IsFound arcs (Cycle walk) = IsRound arcs walk
+abbrev pub IsOrderOrCycle : List Arc → OrderOrCycle → Type 0
+IsOrderOrCycle arcs (Order order) = IsArcOrder arcs order
+IsOrderOrCycle arcs (Cycle walk) = IsRound arcs walk

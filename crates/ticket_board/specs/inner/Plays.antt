@@ -2,20 +2,20 @@
 use Rattle.std.specs.Prelude.{◌≡◌, ◌⊎◌, ℕ, ◌%◌, ◌^◌, [], ◌∷◌, Option, Some}
 use Rattle.atomic_table.specs.Table.{Me, Step}
 use Rattle.board.specs.Boards.{BoardView, IsCaller}
-use Rattle.ticket_board.specs.declared.views.View.{View}
+use Rattle.ticket_board.specs.declared.views.CallerView.{CallerView}
 use Rattle.ticket_board.specs.Passes.{Begins, entries_by}
 use Rattle.ticket_board.specs.inner.Views.{with_ticket, serving, after_turn}
 
 -- a seat's view, and what it holds of the slot
 abbrev pub Sat : Type 0 → Type 0
-Sat P = Me (Option (BoardView P)) View
+Sat P = Me (Option (BoardView P)) CallerView
 
 abbrev pub Move : Type 0 → Type 0
 Move P = Step (Option (BoardView P))
 
 -- The board is the one that the seat serves: it has the shape and the callers that the seat knows,
 -- begins with all that the seat has seen, and of its caller has the seat's own entries.
-pub record IsBoardOf {P : Type 0} (view : View) (board : BoardView P) : Type 0 where
+pub record IsBoardOf {P : Type 0} (view : CallerView) (board : BoardView P) : Type 0 where
   pub shape : board.shape ≡ view.shape
   pub given : board.given ≡ view.given
   pub caller : IsCaller board.given view.number
@@ -50,7 +50,7 @@ passed_on {P} step before found after =
 
 -- a load that compares what the seat has seen with what it was told: from then on it has seen the
 -- longer of the two, and both begin it
-pub record IsCompared (before after : View) : Type 0 where
+pub record IsCompared (before after : CallerView) : Type 0 where
   pub same : after ≡ record before { seen = after.seen }
   pub one : (after.seen ≡ before.seen) ⊎ (after.seen ≡ before.told)
   pub seen : Begins before.seen after.seen

@@ -9,7 +9,7 @@ use Rattle.board.specs.declared.entries.Entry.{Entry}
 use Rattle.board.specs.Boards.{BoardView, IsCaller}
 use Rattle.ticket_board.specs.declared.views.Stage.{Stage}
 use Rattle.ticket_board.specs.declared.views.Stage.TheVariants.{Gone, Idle, Waiting, Serving}
-use Rattle.ticket_board.specs.declared.views.View.{View}
+use Rattle.ticket_board.specs.declared.views.CallerView.{CallerView}
 use Rattle.ticket_board.specs.Passes.{Begins, entries_by}
 use Rattle.ticket_board.specs.inner.Views.{has_ticket, IsThere}
 
@@ -18,7 +18,7 @@ abbrev pub IsSized : TableId → Type 0
 IsSized table = (table.words ≡ 2) × (table.slots ≡ 1)
 
 -- how many seats hold a ticket
-abbrev pub tickets_out : List View → ℕ
+abbrev pub tickets_out : List CallerView → ℕ
 tickets_out views = count_by (λ view. has_ticket view.stage) views
 
 -- the ticket is one of those from the served one on that were drawn, and this seat alone holds it
@@ -29,14 +29,14 @@ pub record HoldsTicket (served drawn : ℕ) (holder : ℕ → ℕ) (seat ticket 
 
 -- the slot is out with the seat in its turn, which noted the history
 pub record IsInTurn {P : Type 0} (served : ℕ) (history : List Entry)
-    (homes : List (maybe.Option (Option (BoardView P)))) (view : View) : Type 0 where
+    (homes : List (maybe.Option (Option (BoardView P)))) (view : CallerView) : Type 0 where
   pub its : view.ticket ≡ served
   pub out : homes ≡ none ∷ []
   pub noted : view.noted ≡ history
 
 -- how the seat stands in the queue
 abbrev pub IsInQueue : {P : Type 0} → ℕ → ℕ → (ℕ → ℕ) → List Entry →
-    List (maybe.Option (Option (BoardView P))) → ℕ → View → Stage → Type 0
+    List (maybe.Option (Option (BoardView P))) → ℕ → CallerView → Stage → Type 0
 IsInQueue served drawn holder history homes seat view Gone = Unit {0}
 IsInQueue served drawn holder history homes seat view Idle = Unit {0}
 IsInQueue served drawn holder history homes seat view Waiting =
@@ -48,7 +48,7 @@ IsInQueue served drawn holder history homes seat view Serving =
 -- seat's own, the history begins with all that it has seen and was told, and its own entries are
 -- those of its number. The first seat alone deals out, and knows how many seats there are.
 pub record IsSeated {P : Type 0} (start : BoardView P) (first seats : ℕ) (history : List Entry)
-    (seat : ℕ) (view : View) : Type 0 where
+    (seat : ℕ) (view : CallerView) : Type 0 where
   pub shape : view.shape ≡ start.shape
   pub given : view.given ≡ start.given
   pub number : view.number ≡ first + seat
@@ -69,9 +69,9 @@ pub record IsAtHome {P : Type 0} (start : BoardView P) (history : List Entry)
 
 -- the slot is out with this seat
 pub record IsOut {P : Type 0} (homes : List (maybe.Option (Option (BoardView P))))
-    (views : List View) (seat : ℕ) : Type 0 where
+    (views : List CallerView) (seat : ℕ) : Type 0 where
   pub out : homes ≡ none ∷ []
-  pub view : View
+  pub view : CallerView
   pub at : get_elem? views seat ≡ some view
   pub stage : view.stage ≡ Serving
 
@@ -79,8 +79,8 @@ pub record IsOut {P : Type 0} (homes : List (maybe.Option (Option (BoardView P))
 -- 1,000 seats, spent ones too. The tickets that are out are as many as the numbers from the served
 -- one on that were drawn, so that each of these is held once. The slot is at home, or out with the
 -- seat whose ticket is served, and the history is that of its board as it was at home.
-pub record IsKept {P : Type 0} (start : BoardView P) (first : ℕ)
-    (state : State (Option (BoardView P)) View) : Type 0 where
+pub record KeepsTicketRule {P : Type 0} (start : BoardView P) (first : ℕ)
+    (state : State (Option (BoardView P)) CallerView) : Type 0 where
   pub served : ℕ
   pub holder : ℕ → ℕ
   pub history : List Entry
@@ -88,9 +88,9 @@ pub record IsKept {P : Type 0} (start : BoardView P) (first : ℕ)
       ≡ ((served + tickets_out state.views) % 2 ^ 64) ∷ (served % 2 ^ 64) ∷ []
   pub few : length state.views ≤ 1000
   pub slot : IsAtHome start history state.homes ⊎ IsOut state.homes state.views (holder served)
-  pub seated : (seat : ℕ) (view : View) → get_elem? state.views seat ≡ some view →
+  pub seated : (seat : ℕ) (view : CallerView) → get_elem? state.views seat ≡ some view →
       IsThere view.stage → IsSeated start first (length state.views) history seat view
-  pub queue : (seat : ℕ) (view : View) → get_elem? state.views seat ≡ some view →
+  pub queue : (seat : ℕ) (view : CallerView) → get_elem? state.views seat ≡ some view →
       IsInQueue served (served + tickets_out state.views) holder history state.homes seat view
       view.stage
   pub unused : (number : ℕ) → first + length state.views ≤ number → entries_by number history ≡ []

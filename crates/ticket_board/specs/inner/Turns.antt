@@ -11,7 +11,7 @@ use Rattle.board.specs.declared.entries.Entry.{Entry}
 use Rattle.board.specs.Boards.{BoardView, board_state}
 use Rattle.board.specs.Histories.{HasNoParent, choices_of}
 use Rattle.ticket_board.specs.declared.views.Stage.TheVariants.{Serving}
-use Rattle.ticket_board.specs.declared.views.View.{View}
+use Rattle.ticket_board.specs.declared.views.CallerView.{CallerView}
 use Rattle.ticket_board.specs.Passes.{entries_by}
 use Rattle.ticket_board.specs.inner.Plays.{Sat}
 use Rattle.ticket_board.specs.inner.Views.{with_ticket, serving}
@@ -22,7 +22,8 @@ pub record IsServing {P : Type 0} (me : Sat P) (inside : Option (BoardView P)) :
   pub slot : me.1 ≡ (0, inside) ∷ []
 
 -- the seat has drawn a ticket and taken this board out of the slot
-pub record IsTaken {P : Type 0} (before : View) (board : BoardView P) (me : Sat P) : Type 0 where
+pub record HasTakenBoard {P : Type 0} (before : CallerView) (board : BoardView P) (me : Sat P) :
+    Type 0 where
   pub ticket : ℕ
   pub view : me.0 ≡ serving (with_ticket before ticket) board.entries
   pub slot : me.1 ≡ (0, None) ∷ []
@@ -38,7 +39,7 @@ pub record AddsOwn {P : Type 0} (number : ℕ) (before after : BoardView P) : Ty
 
 -- the board may go back: it is of the same shape and callers, and to the history that the seat noted
 -- no entry of another caller was added
-pub record Adds {P : Type 0} (view : View) (board : BoardView P) : Type 0 where
+pub record Adds {P : Type 0} (view : CallerView) (board : BoardView P) : Type 0 where
   pub shape : board.shape ≡ view.shape
   pub given : board.given ≡ view.given
   pub added : List Entry

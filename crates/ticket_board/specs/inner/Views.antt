@@ -8,7 +8,7 @@ use Rattle.board.specs.Boards.{BoardView}
 use Rattle.board.specs.Histories.{IsLegal}
 use Rattle.ticket_board.specs.declared.views.Stage.{Stage}
 use Rattle.ticket_board.specs.declared.views.Stage.TheVariants.{Gone, Idle, Waiting, Serving}
-use Rattle.ticket_board.specs.declared.views.View.{View}
+use Rattle.ticket_board.specs.declared.views.CallerView.{CallerView}
 use Rattle.ticket_board.specs.Passes.{PassView, entries_by}
 
 -- the caller holds a ticket
@@ -26,19 +26,19 @@ IsThere Waiting = Unit {0}
 IsThere Serving = Unit {0}
 
 -- a shape of one vertex
-abbrev pub no_shape : Shape
-no_shape = record {
+abbrev pub one_vertex_shape : Shape
+one_vertex_shape = record {
   plan = record { vertices = 1; pieces = []; ends = λ i within. (le_refl 1, le_refl 1) };
   ways = [];
   one_for_each = refl;
 }
 
 -- a seat whose caller has no pass any more
-abbrev pub nobody : View
+abbrev pub nobody : CallerView
 nobody = record {
   stage = Gone;
   dealt = 0;
-  shape = no_shape;
+  shape = one_vertex_shape;
   given = 0;
   number = 0;
   seen = [];
@@ -50,12 +50,12 @@ nobody = record {
 }
 
 -- the view of a seat
-abbrev pub view_in : List View → View
+abbrev pub view_in : List CallerView → CallerView
 view_in [] = nobody
 view_in (view ∷ views) = view
 
 -- the first seat, which deals the others out: the number of its caller is `first`
-abbrev pub first_view : {P : Type 0} → BoardView P → ℕ → View
+abbrev pub first_view : {P : Type 0} → BoardView P → ℕ → CallerView
 first_view board first = record {
   stage = Idle;
   dealt = 1;
@@ -71,11 +71,11 @@ first_view board first = record {
 }
 
 -- the first seat after one more was dealt out
-abbrev pub dealer_after : View → View
+abbrev pub dealer_after : CallerView → CallerView
 dealer_after view = record view { dealt = view.dealt + 1 }
 
 -- the seat that is dealt out next
-abbrev pub dealt_next : View → View
+abbrev pub dealt_next : CallerView → CallerView
 dealt_next view = record view {
   dealt = 0;
   number = view.number + view.dealt;
@@ -85,19 +85,19 @@ dealt_next view = record view {
 }
 
 -- a seat with a note of what another had seen
-abbrev pub told_of : View → View → View
+abbrev pub told_of : CallerView → CallerView → CallerView
 told_of view other = record view { told = other.seen }
 
 -- a seat that has drawn the ticket
-abbrev pub with_ticket : View → ℕ → View
+abbrev pub with_ticket : CallerView → ℕ → CallerView
 with_ticket view ticket = record view { stage = Waiting; ticket = ticket }
 
 -- a seat whose ticket is served, and that noted the history of the board
-abbrev pub serving : View → List Entry → View
+abbrev pub serving : CallerView → List Entry → CallerView
 serving view history = record view { stage = Serving; noted = history }
 
 -- a seat that has ended its turn with this history
-abbrev pub after_turn : View → List Entry → View
+abbrev pub after_turn : CallerView → List Entry → CallerView
 after_turn view history = record view {
   stage = Idle;
   seen = history;
@@ -106,7 +106,7 @@ after_turn view history = record view {
 }
 
 -- the pass of a seat
-abbrev pub pass_of : TableId → View → PassView
+abbrev pub pass_of : TableId → CallerView → PassView
 pass_of table view = record {
   home = record { table = table; shape = view.shape };
   number = view.number;
@@ -116,18 +116,18 @@ pass_of table view = record {
 }
 
 -- between two turns: the seat holds no ticket, has seen a legal history, and knows its own entries
-pub record IsAtRest (view : View) : Type 0 where
+pub record IsAtRest (view : CallerView) : Type 0 where
   pub idle : view.stage ≡ Idle
   pub legal : IsLegal view.seen
   pub own : entries_by view.number view.seen ≡ view.mine
 
 -- the one view is that of a seat between two turns
-pub record IsResting (views : List View) : Type 0 where
+pub record IsResting (views : List CallerView) : Type 0 where
   pub seated : views ≡ view_in views ∷ []
   pub idle : (view_in views).stage ≡ Idle
 
 -- the one view is that of a pass with this number, between two turns
-pub record IsPass (number : ℕ) (views : List View) : Type 0 where
+pub record IsPass (number : ℕ) (views : List CallerView) : Type 0 where
   pub seated : views ≡ view_in views ∷ []
   pub same : number ≡ (view_in views).number
   pub rests : IsAtRest (view_in views)

@@ -2,9 +2,9 @@
 use Rattle.std.specs.Prelude.{◌≡◌, ◌⊎◌, ℕ, true, List, [], length, All, MatchOption, Option}
 use Rattle.compact_types.specs.declared.search.Branch.{Branch}
 use Rattle.board.specs.Histories.{open_count_of, state_of}
-use Rattle.least_word.specs.Seats.{Home as WordHome, SeatView}
+use Rattle.least_word.specs.Seats.{SeatView, WordHome}
 use Rattle.least_word.specs.Views.{after_halt}
-use Rattle.ticket_board.specs.Passes.{Begins, Home as BoardHome, PassView}
+use Rattle.ticket_board.specs.Passes.{Begins, BoardHome, PassView}
 use Rattle.workers.specs.declared.desks.Desk.{Desk}
 use Rattle.workers.specs.declared.hands.Hand.{Hand}
 use Rattle.workers.specs.Hands.{HasWorked, IsHandAt, IsQuiet, IsTakenUp}
@@ -21,7 +21,7 @@ pub record IsLiving (old : Hand) (start : Option Branch) (new : Hand) : Type 0 w
   pub begun : MatchOption start (Unit {0}) (λ branch. IsTakenUp old.pass branch new.pass)
 
 -- memory was refused to the worker before it had put every branch that it had to put
-pub record IsStopped (old new : Hand) : Type 0 where
+pub record IsOutOfMemory (old new : Hand) : Type 0 where
   pub left : List ℕ
   pub worked : HasWorked old new left
 

@@ -44,7 +44,7 @@ pub record HasPut (branch : Branch) (what : Settled) (left : List Branch) (old n
   pub in_order : put ++ left ≡ children_to_put branch what
 
 -- the branch has the choices of the other and one more
-pub record IsChildOf (branch child : Branch) : Type 0 where
+pub record HasOneMoreChoice (branch child : Branch) : Type 0 where
   pub last : Choice
   pub is : child.choices.choices ≡ branch.choices.choices ++ last ∷ []
 

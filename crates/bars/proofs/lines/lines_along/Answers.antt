@@ -3,7 +3,7 @@ use Rattle.std.proofs.lemmas.List.{get_or_default}
 use Rattle.bars.specs.Lines.{is_least}
 use Rattle.bars.specs.inner.Leads.{AreLeads}
 use Rattle.bars.proofs.LineTables.{numbered_begins, numbered_follows, lead_below}
-use Rattle.bars.proofs.Numbering.{count_below_bound}
+use Rattle.bars.proofs.LineNumbers.{count_below_bound}
 use Rattle.bars.proofs.lines.lines_along.Goals as goal
 use Rattle.bars.proofs.lines.lines_along.Goals.{then-lead-v+in_ok-push, else-lead-v+in_ok-push-2}
 

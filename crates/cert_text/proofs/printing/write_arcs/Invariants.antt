@@ -1,6 +1,6 @@
 use Rattle.std.proofs.Common.{◌≡◌, ◌++◌, take}
 use Rattle.std.specs.List.{flat_map}
-use Rattle.cert_text.proofs.Printed.{arc_text}
+use Rattle.cert_text.proofs.PrintedLists.{arc_text}
 use Rattle.cert_text.proofs.printing.write_arcs.Given as goal
 
 -- the text has grown by the parts so far

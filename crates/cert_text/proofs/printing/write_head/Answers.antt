@@ -1,6 +1,6 @@
 use Rattle.std.proofs.Common.{codes, decimal}
 use Rattle.std.proofs.lemmas.Result.{on_ok_weaker}
-use Rattle.cert_text.proofs.Printed.{three_added}
+use Rattle.cert_text.proofs.PrintedLists.{three_added}
 use Rattle.cert_text.proofs.printing.write_head.Goals as goal
 
 -- the start of the line is written at once

@@ -1,6 +1,6 @@
 use Rattle.compact_main.specs.Drawings.{shape_of}
 use Rattle.compact_main.proofs.ShownBest.{found}
-use Rattle.compact_main.proofs.Sound.{drawn_read, within_limits}
+use Rattle.compact_main.proofs.ReadShapes.{drawn_read, within_limits}
 use Rattle.compact_main.proofs.draw.best_of.Goals as goal
 
 pub best-requires-clause-drawing : goal.best-requires-clause-drawing

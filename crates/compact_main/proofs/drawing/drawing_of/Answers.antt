@@ -6,7 +6,7 @@ use Rattle.drawing_check.specs.Shapes.{IsShapeOf}
 use Rattle.compact_main.specs.declared.drawing.Drawing.{Drawing}
 use Rattle.compact_main.specs.declared.status.Why.TheVariants.{Shape as Figure}
 use Rattle.compact_main.specs.Drawings.{FirstTextFault}
-use Rattle.compact_main.proofs.Refusals.{told}
+use Rattle.compact_main.proofs.StepRefusals.{told}
 use Rattle.compact_main.proofs.TextAnswers.{can_check, text_answer}
 use Rattle.compact_main.proofs.drawing.drawing_of.Goals as goal
 

@@ -1,6 +1,6 @@
 use Rattle.bars.specs.Segments.{IsPair}
 use Rattle.compact_main.specs.Summaries.{IsSeparatedPair}
-use Rattle.compact_main.proofs.Counts.{count_by_test, one_pair_count}
+use Rattle.compact_main.proofs.CountsBelow.{count_by_test, one_pair_count}
 use Rattle.compact_main.proofs.laws.counts_are_exact.Goals as goal
 
 pub returns-clause-tested : goal.returns-clause-tested

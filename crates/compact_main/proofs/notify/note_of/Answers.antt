@@ -1,6 +1,6 @@
 use Rattle.std.proofs.Common.{[], ◌∷◌, length-append, arith}
 use Rattle.compact_main.specs.Notes.{status_text}
-use Rattle.compact_main.proofs.Lines.{then, added_whole}
+use Rattle.compact_main.proofs.LineLengths.{then, added_whole}
 use Rattle.compact_main.proofs.notify.note_of.Goals as goal
 
 pub returns : goal.returns

@@ -1,4 +1,4 @@
-use Rattle.compact_main.proofs.Lines.{then}
+use Rattle.compact_main.proofs.LineLengths.{then}
 use Rattle.compact_main.proofs.notify.push_draw_fault.Goals as goal
 
 pub returns-in-BadPoint-clause-added : goal.returns-in-BadPoint-clause-added

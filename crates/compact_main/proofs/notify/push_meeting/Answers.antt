@@ -1,6 +1,6 @@
 use Rattle.std.specs.Int.{w64}
 use Rattle.std.proofs.lemmas.Int.{to_z-of_z}
-use Rattle.compact_main.proofs.Lines.{then}
+use Rattle.compact_main.proofs.LineLengths.{then}
 use Rattle.compact_main.proofs.notify.push_meeting.Goals as goal
 
 pub returns-clause-added : goal.returns-clause-added

@@ -1,4 +1,4 @@
-use Rattle.compact_main.proofs.Lines.{then}
+use Rattle.compact_main.proofs.LineLengths.{then}
 use Rattle.compact_main.proofs.notify.push_status.Goals as goal
 
 pub returns-in-Refused-clause-added : goal.returns-in-Refused-clause-added

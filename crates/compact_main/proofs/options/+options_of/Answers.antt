@@ -1,5 +1,5 @@
 use Rattle.std.proofs.Common.{sym, ◌∙◌, subst, arith, codes}
-use Rattle.compact_main.specs.inner.Askings.{AreFound}
+use Rattle.compact_main.specs.inner.WordOptions.{AreFound}
 use Rattle.compact_main.proofs.OptionWords.{empty_texts, rest_texts, two_rest_texts}
 use Rattle.compact_main.proofs.options.+options_of.Goals as goal
 

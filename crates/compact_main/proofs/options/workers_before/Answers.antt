@@ -1,5 +1,5 @@
 use Rattle.std.proofs.Common.{subst}
-use Rattle.compact_main.specs.inner.Askings.{AreFound}
+use Rattle.compact_main.specs.inner.WordOptions.{AreFound}
 use Rattle.compact_main.proofs.options.workers_before.Goals as goal
 
 pub returns-in-Some : goal.returns-in-Some

@@ -3,7 +3,7 @@ use Rattle.gml_text.specs.declared.limits.TheConstants.{MOST_BYTES}
 use Rattle.compact_main.specs.declared.status.Unproved.TheVariants.{Check}
 use Rattle.compact_main.specs.Drawings.{IsFirstFlaw}
 use Rattle.compact_main.specs.Outputs.{FirstUnproved}
-use Rattle.compact_main.proofs.Refusals.{told}
+use Rattle.compact_main.proofs.StepRefusals.{told}
 use Rattle.compact_main.proofs.ProvedAnswers.{can_check, can_measure}
 use Rattle.compact_main.proofs.verify.proved_length.Goals as goal
 

@@ -4,15 +4,15 @@ use mir.Syntax.{w64}
 use mir.Val.{SFits}
 use Rattle.compact_main.specs.declared.command.Command.TheVariants.{Verify}
 use Rattle.compact_main.specs.declared.status.Failure.TheVariants.{NotProved}
-use Rattle.compact_main.specs.Outputs.{proved_line, FirstFault, FirstUnproved}
-use Rattle.compact_main.proofs.Refusals.{told}
+use Rattle.compact_main.specs.Outputs.{proved_line, FirstFailure, FirstUnproved}
+use Rattle.compact_main.proofs.StepRefusals.{told}
 use Rattle.compact_main.proofs.verify.verify.Goals as goal
 
 pub returns-in-Err-clause-fault : goal.returns-in-Err-clause-fault
 returns-in-Err-clause-fault g c =
     let drawing = c.in_ok-drawing.drawing in
     told ℤ (List ℕ) c.in-Err.refusal c.map.result (λ unproved. NotProved unproved)
-    (FirstUnproved c.args.bytes.now drawing) (FirstFault Verify c.args.bytes.now)
+    (FirstUnproved c.args.bytes.now drawing) (FirstFailure Verify c.args.bytes.now)
     (λ unproved first. (drawing, c.in_ok-drawing.ensures.input, first)) c.in-Err.ensures.unproved c.map.ensures
 
 pub returns-in_ok-proved_line-in-Ok-clause-output : goal.returns-in_ok-proved_line-in-Ok-clause-output

@@ -1,5 +1,5 @@
 use Rattle.std.proofs.Common.{subst}
-use Rattle.compact_main.specs.inner.Askings.{AreFound}
+use Rattle.compact_main.specs.inner.WordOptions.{AreFound}
 use Rattle.compact_main.proofs.CommandWords.{no_drawing, some_drawing, some_workers}
 use Rattle.compact_main.proofs.words.drawing_with.Goals as goal
 

@@ -1,7 +1,7 @@
 use Rattle.std.proofs.Common.{◌∷◌, sym, subst}
 use Rattle.std.proofs.lemmas.Bool.{both_ways}
 use Rattle.compact_main.specs.Commands.{texts_of}
-use Rattle.compact_main.specs.inner.Askings.{IsRequest}
+use Rattle.compact_main.specs.inner.WordOptions.{IsRequest}
 use Rattle.compact_main.proofs.CommandWords.{as_drawing, as_sample, no_command, some_texts, no_texts}
 use Rattle.compact_main.proofs.words.request_with.Goals as goal
 

@@ -1,4 +1,4 @@
-use Rattle.compact_types.proofs.ScaledUp.{crossing_free_of_scaled, drawing_of_scaled}
+use Rattle.compact_types.proofs.ScaledDrawings.{crossing_free_of_scaled, drawing_of_scaled}
 use Rattle.compact_types.proofs.ScalingLemmas.{crossing_free-scaled, drawing-scaled}
 use Rattle.compact_types.proofs.scalings.scaling_keeps_drawings.Goals as goal
 

@@ -1,6 +1,6 @@
 use Rattle.std.proofs.Common.{◌≡◌, ◌+◌, ◌-◌, ◌<◌, ◌^◌, ◌∙◌, ℕ, List, length, get_or, set, replicate, sym, ap, subst, arith}
 use Rattle.diff_flow.specs.declared.tree.Reached.{Reached}
-use Rattle.diff_flow.specs.declared.steps.Step.{Step}
+use Rattle.diff_flow.specs.declared.steps.ResidualArc.{ResidualArc}
 use Rattle.diff_flow.specs.inner.Steps.{along_at}
 use Rattle.diff_flow.specs.inner.Search.{entry_at, NoneLacks}
 use Rattle.diff_flow.proofs.SetLemmas.{by_true, by_write}
@@ -15,8 +15,8 @@ pub spread-requires-clause-none : goal.spread-requires-clause-none
 spread-requires-clause-none c = λ v some.
     let steps = c.args.steps.now in
     let zeros = c.in_ok-want.ensures.items_if_clones_equal (λ y is. is) in
-    let is : v ≡ (along_at steps.list.items c.args.i).from = c.in_ok-plant.ensures.places v some ∙ ap (λ (s : Step). s.from) c.along-step.ensures.is in
-    let to : c.along-step.result.to ≡ (along_at steps.list.items c.args.i).to = ap (λ (s : Step). s.to) c.along-step.ensures.is in
+    let is : v ≡ (along_at steps.list.items c.args.i).from = c.in_ok-plant.ensures.places v some ∙ ap (λ (s : ResidualArc). s.from) c.along-step.ensures.is in
+    let to : c.along-step.result.to ≡ (along_at steps.list.items c.args.i).to = ap (λ (s : ResidualArc). s.to) c.along-step.ensures.is in
     let none = other_has steps.nodes c.along-step.result.to v
     (λ same. ends_apart steps.arcs steps.list.items c.args.amounts.now c.args.numbers.now c.args.i c.requires.slack (sym is ∙ same ∙ to)) in
     ap (λ (xs : List ℕ). get_or xs v 0) c.as_slice.ensures.value
@@ -27,8 +27,8 @@ unreachable-requires c =
     let steps = c.args.steps.now in
     let best = c.requires.best in
     let zeros = c.in_ok-want.ensures.items_if_clones_equal (λ y is. is) in
-    let from : c.along-step.result.from ≡ (along_at steps.list.items c.args.i).from = ap (λ (s : Step). s.from) c.along-step.ensures.is in
-    let to : c.along-step.result.to ≡ (along_at steps.list.items c.args.i).to = ap (λ (s : Step). s.to) c.along-step.ensures.is in
+    let from : c.along-step.result.from ≡ (along_at steps.list.items c.args.i).from = ap (λ (s : ResidualArc). s.from) c.along-step.ensures.is in
+    let to : c.along-step.result.to ≡ (along_at steps.list.items c.args.i).to = ap (λ (s : ResidualArc). s.to) c.along-step.ensures.is in
     let kept = c.in_ok-spread.ensures.grows.kept 0 (omega (arith, c.in_ok-plant.ensures.one)) in
     let first : (entry_at c.spread.new.tree.entries.items 0).node ≡ (along_at steps.list.items c.args.i).from =
     ap (λ (e : Reached). e.node) kept ∙ c.in_ok-plant.ensures.start ∙ from in
@@ -52,8 +52,8 @@ pub returns : goal.returns
 returns c =
     let steps = c.args.steps.now in
     let zeros = c.in_ok-want.ensures.items_if_clones_equal (λ y is. is) in
-    let from : c.along-step.result.from ≡ (along_at steps.list.items c.args.i).from = ap (λ (s : Step). s.from) c.along-step.ensures.is in
-    let to : c.along-step.result.to ≡ (along_at steps.list.items c.args.i).to = ap (λ (s : Step). s.to) c.along-step.ensures.is in
+    let from : c.along-step.result.from ≡ (along_at steps.list.items c.args.i).from = ap (λ (s : ResidualArc). s.from) c.along-step.ensures.is in
+    let to : c.along-step.result.to ≡ (along_at steps.list.items c.args.i).to = ap (λ (s : ResidualArc). s.to) c.along-step.ensures.is in
     let kept = c.in_ok-spread.ensures.grows.kept 0 (omega (arith, c.in_ok-plant.ensures.one)) in
     let first : (entry_at c.spread.new.tree.entries.items 0).node ≡ (along_at steps.list.items c.args.i).from =
     ap (λ (e : Reached). e.node) kept ∙ c.in_ok-plant.ensures.start ∙ from in

@@ -1,5 +1,5 @@
 use Rattle.std.proofs.Common.{◌∙◌, ap, sym, subst, arith}
-use Rattle.diff_flow.specs.declared.steps.Step.{Step}
+use Rattle.diff_flow.specs.declared.steps.ResidualArc.{ResidualArc}
 use Rattle.diff_flow.specs.inner.Steps.{step_at}
 use Rattle.diff_flow.specs.inner.Lengthening.{MeetsAlong}
 use Rattle.diff_flow.specs.inner.Routing.{AreFirst}
@@ -20,7 +20,7 @@ lengthen-requires-clause-met c = λ k k_in apart.
     (first_met c.args.graph.now.value c.args.steps.now c.args.walks.now c.requires.made c.args.numbers.now c.in_ok-first.first.items c.requires.least
     (c.in_ok-first.ensures.len ∙ c.requires.one_for_each)
     (λ v v_in. c.in_ok-first.ensures.each v (omega (arith, v_in, c.requires.one_for_each)))
-    c.along-start.result.from (ap (λ (s : Step). s.from) c.along-start.ensures.is) k k_in apart)
+    c.along-start.result.from (ap (λ (s : ResidualArc). s.from) c.along-start.ensures.is) k k_in apart)
 
 pub returns : goal.returns
 returns c =

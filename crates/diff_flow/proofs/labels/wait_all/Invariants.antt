@@ -1,8 +1,8 @@
 use Rattle.std.proofs.Common.{◌-◌, ◌*◌}
-use Rattle.diff_flow.specs.inner.Numbers.{Rises, AreFrom}
+use Rattle.diff_flow.specs.inner.Numbers.{Rises, IsAtLeast}
 use Rattle.diff_flow.proofs.labels.wait_all.Given as goal
 
 abbrev pub invariant-loop-i : goal.invariant-loop-i
 invariant-loop-i l =
     Rises l.steps.nodes l.steps.list.items l.amounts ((l.steps.nodes - 1) * l.steps.reach) l.walks l.waits l.queue.items
-    (AreFrom l.i)
+    (IsAtLeast l.i)

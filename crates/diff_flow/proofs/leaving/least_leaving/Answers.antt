@@ -1,7 +1,7 @@
 use Rattle.std.proofs.Common.{◌≡◌, ◌<◌, length, arith, ap, subst}
 use Rattle.std.proofs.lemmas.List.{get_or_read}
 use Rattle.diff_flow.specs.declared.tree.Reached.{Reached}
-use Rattle.diff_flow.specs.inner.Search.{entry_at, no_entry, IsLeastLeaving, IsSeen}
+use Rattle.diff_flow.specs.inner.Search.{entry_at, no_entry, IsLeastLeaving, IsScanned}
 use Rattle.diff_flow.proofs.TurnLemmas.{least_entry, least_of_all}
 use Rattle.diff_flow.proofs.leaving.least_leaving.Goals as goal
 
@@ -16,7 +16,7 @@ loop-at-preserved c =
     let seen = c.lesser_from-least.ensures c.loop-at.at (rw c.as_slice.ensures.value c.loop-at.invariant) in
     least_entry steps.nodes steps.arcs steps.reach steps.list.items c.args.numbers.now places tree c.loop-at.at c.lesser_from-least.result
     steps.within c.requires.placed at_in
-    (subst (λ v. IsLeastLeaving (IsSeen steps.list.items places c.loop-at.at v 0) steps.list.items c.args.numbers.now places
+    (subst (λ v. IsLeastLeaving (IsScanned steps.list.items places c.loop-at.at v 0) steps.list.items c.args.numbers.now places
     c.lesser_from-least.result) node (rw c.as_slice.ensures.value at seen))
 
 pub returns : goal.returns

@@ -1,6 +1,6 @@
-use Rattle.diff_flow.specs.inner.Search.{IsLeastLeaving, IsSeenBefore}
+use Rattle.diff_flow.specs.inner.Search.{IsLeastLeaving, IsScannedBefore}
 use Rattle.diff_flow.proofs.leaving.least_leaving.Given as goal
 
 abbrev pub invariant-loop-at : goal.invariant-loop-at
 invariant-loop-at l =
-    IsLeastLeaving (IsSeenBefore l.steps.list.items l.tree.places.items l.at) l.steps.list.items l.numbers l.tree.places.items l.least
+    IsLeastLeaving (IsScannedBefore l.steps.list.items l.tree.places.items l.at) l.steps.list.items l.numbers l.tree.places.items l.least

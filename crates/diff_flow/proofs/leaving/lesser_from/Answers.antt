@@ -1,7 +1,7 @@
 use Rattle.std.proofs.Common.{◌≡◌, ◌+◌, ◌-◌, ◌<◌, length, arith, ◌∙◌, subst, sym}
 use Rattle.std.proofs.lemmas.List.{get_or_read}
 use Rattle.diff_flow.specs.inner.Steps.{step_at}
-use Rattle.diff_flow.specs.inner.Search.{IsLeastLeaving, IsSeen}
+use Rattle.diff_flow.specs.inner.Search.{IsLeastLeaving, IsScanned}
 use Rattle.diff_flow.proofs.TurnLemmas.{least_begun, least_next}
 use Rattle.diff_flow.proofs.leaving.lesser_from.Goals as goal
 
@@ -15,7 +15,7 @@ loop-entry-init c =
     record {
       most = omega (arith, read, rows.last_most c.args.node c.requires.node);
       from = subst (λ e. 0 < e → (step_at steps.list.items (e - 1)).from ≡ c.args.node) (sym read) (rows.last_from c.args.node c.requires.node);
-      least = λ at was. subst (λ e. IsLeastLeaving (IsSeen steps.list.items places at c.args.node e) steps.list.items c.args.numbers.now
+      least = λ at was. subst (λ e. IsLeastLeaving (IsScanned steps.list.items places at c.args.node e) steps.list.items c.args.numbers.now
           places c.args.least) (sym read)
           (least_begun steps.nodes steps.list.items c.args.numbers.now places steps.rows.last.items steps.rows.before.items at
           c.args.node c.args.least rows was);
@@ -37,11 +37,11 @@ loop-entry-preserved c =
       from = subst (λ e. 0 < e → (step_at steps.list.items (e - 1)).from ≡ c.args.node) (sym read)
           (λ some. rows.before_from (c.loop-entry.entry - 1) k_in some ∙ node);
       least = λ at was.
-          let here = subst (λ e. IsLeastLeaving (IsSeen steps.list.items places at c.args.node e) steps.list.items c.args.numbers.now
+          let here = subst (λ e. IsLeastLeaving (IsScanned steps.list.items places at c.args.node e) steps.list.items c.args.numbers.now
           places c.loop-entry.lesser) next (c.loop-entry.invariant.least at was) in
-          let there = subst (λ v. IsLeastLeaving (IsSeen steps.list.items places at v (c.loop-entry.entry - 1 + 1)) steps.list.items
+          let there = subst (λ v. IsLeastLeaving (IsScanned steps.list.items places at v (c.loop-entry.entry - 1 + 1)) steps.list.items
           c.args.numbers.now places c.loop-entry.lesser) (sym node) here in
-          subst (λ e. IsLeastLeaving (IsSeen steps.list.items places at c.args.node e) steps.list.items c.args.numbers.now
+          subst (λ e. IsLeastLeaving (IsScanned steps.list.items places at c.args.node e) steps.list.items c.args.numbers.now
           places c.lesser_leaving-lesser.result) (sym read)
           (least_next steps.nodes steps.list.items c.args.numbers.now places steps.rows.last.items steps.rows.before.items at
           c.args.node (c.loop-entry.entry - 1) c.lesser_leaving-lesser.result rows k_in node
@@ -53,5 +53,5 @@ returns c = λ at was.
     let steps = c.args.steps.now in
     let places = c.args.places.now in
     let none : c.loop-entry.entry ≡ 0 = omega arith in
-    subst (λ e. IsLeastLeaving (IsSeen steps.list.items places at c.args.node e) steps.list.items c.args.numbers.now
+    subst (λ e. IsLeastLeaving (IsScanned steps.list.items places at c.args.node e) steps.list.items c.args.numbers.now
     places c.loop-entry.lesser) none (c.loop-entry.invariant.least at was)

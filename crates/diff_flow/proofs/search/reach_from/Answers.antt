@@ -1,7 +1,7 @@
 use Rattle.std.proofs.Common.{◌≡◌, ◌+◌, ◌-◌, ◌<◌, length, arith, ◌∙◌, subst, sym}
 use Rattle.std.proofs.lemmas.List.{get_or_read}
 use Rattle.diff_flow.specs.inner.Steps.{step_at}
-use Rattle.diff_flow.specs.inner.Search.{ArePassedFrom}
+use Rattle.diff_flow.specs.inner.Search.{AreFollowedFrom}
 use Rattle.diff_flow.proofs.TreeLemmas.{by_false, grows_trans, passed_from_grows, passed_next}
 use Rattle.diff_flow.proofs.search.reach_from.Goals as goal
 
@@ -21,7 +21,7 @@ loop-entry-preserved c =
     c.loop-entry.invariant.passed in
     let after = passed_next steps.nodes steps.list.items c.args.amounts.now c.args.numbers.now c.reach.new.tree.places.items
     steps.rows.last.items steps.rows.before.items c.index.result.now.node (c.loop-entry.entry - 1) rows k_in node c.in_ok-reach.ensures.passed
-    (subst (ArePassedFrom steps.list.items c.args.amounts.now c.args.numbers.now c.reach.new.tree.places.items c.index.result.now.node) next passed) in
+    (subst (AreFollowedFrom steps.list.items c.args.amounts.now c.args.numbers.now c.reach.new.tree.places.items c.index.result.now.node) next passed) in
     record {
       most = omega (arith, read, k_in, rows.before_most (c.loop-entry.entry - 1) k_in);
       from = subst (λ e. 0 < e → (step_at steps.list.items (e - 1)).from ≡ c.index.result.now.node) (sym read)
@@ -30,7 +30,7 @@ loop-entry-preserved c =
       tree = c.in_ok-reach.ensures.tree;
       grows = grows_trans _ _ _ _ _ _ c.loop-entry.invariant.grows grows;
       none = by_false _ _ _ c.if-branch.false c.in_ok-reach.ensures.found;
-      passed = subst (ArePassedFrom steps.list.items c.args.amounts.now c.args.numbers.now c.reach.new.tree.places.items c.index.result.now.node)
+      passed = subst (AreFollowedFrom steps.list.items c.args.amounts.now c.args.numbers.now c.reach.new.tree.places.items c.index.result.now.node)
           (sym read) after;
     }
 

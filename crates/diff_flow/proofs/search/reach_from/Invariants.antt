@@ -1,6 +1,6 @@
 use Rattle.std.proofs.Common.{◌≡◌, ◌-◌, ◌<◌, ◌≤◌, length, slice_index}
 use Rattle.diff_flow.specs.inner.Steps.{step_at}
-use Rattle.diff_flow.specs.inner.Search.{IsTree, Grows, NoneLacks, ArePassedFrom}
+use Rattle.diff_flow.specs.inner.Search.{IsTree, Grows, NoneLacks, AreFollowedFrom}
 use Rattle.diff_flow.proofs.search.reach_from.Given as goal
 
 abbrev pub invariant-loop-entry : goal.invariant-loop-entry
@@ -11,7 +11,7 @@ invariant-loop-entry l = record {
   tree : IsTree l.steps.nodes l.steps.list.items l.amounts l.numbers l.tree.entries.items l.tree.places.items;
   grows : Grows l.initial.tree.entries.items l.initial.tree.places.items l.tree.entries.items l.tree.places.items;
   none : NoneLacks l.want l.tree.places.items;
-  passed : ArePassedFrom l.steps.list.items l.amounts l.numbers l.tree.places.items l.node l.entry;
+  passed : AreFollowedFrom l.steps.list.items l.amounts l.numbers l.tree.places.items l.node l.entry;
 }
 
 abbrev pub decreases-loop-entry : goal.decreases-loop-entry

@@ -1,5 +1,5 @@
 use Rattle.std.proofs.Common.{[], arith, subst, sym}
-use Rattle.diff_flow.specs.inner.Steps.{IsOpen, Meets}
+use Rattle.diff_flow.specs.inner.Steps.{IsResidual, MeetsStep}
 use Rattle.diff_flow.specs.inner.Numbers.{height}
 use Rattle.diff_flow.proofs.LabelLemmas.{too_high_at}
 use Rattle.diff_flow.proofs.WalkLemmas.{walk_open, walked_kept, walked_raised}
@@ -21,7 +21,7 @@ returns-in-Kept c =
     steps.within steps.paired c.requires.order c.requires.at c.requires.walked in
     walked_kept steps.nodes steps.arcs steps.reach c.args.limit steps.list.items c.args.order.now c.args.at c.args.numbers.now
     steps.within steps.paired c.requires.order c.requires.at c.requires.walked c.lift.new.numbers c.in-Kept.ensures.0
-    (subst (Meets (height c.args.numbers.now)) c.along.ensures.is (c.in-Kept.ensures.1 (subst (IsOpen []) (sym c.along.ensures.is) opens)))
+    (subst (MeetsStep (height c.args.numbers.now)) c.along.ensures.is (c.in-Kept.ensures.1 (subst (IsResidual []) (sym c.along.ensures.is) opens)))
 
 pub returns-in-Raised : goal.returns-in-Raised
 returns-in-Raised c =

@@ -1,5 +1,5 @@
-use Rattle.drawing_check.specs.inner.Partners.{AreApart}
+use Rattle.drawing_check.specs.inner.Partners.{ArePiecesApart}
 use Rattle.drawing_check.proofs.meeting.first_meeting.Given as goal
 
 abbrev pub invariant-loop-first : goal.invariant-loop-first
-invariant-loop-first l = AreApart l.plan l.places l.first
+invariant-loop-first l = ArePiecesApart l.plan l.places l.first

@@ -1,14 +1,14 @@
 use Rattle.std.proofs.Common.{◌≡◌, ◌<◌, ◌+◌, ◌^◌, ◌∷◌, [], ℕ, List, None, length, All, sym, ◌∙◌, ap, subst, arith}
 use Rattle.compact_types.specs.Lookups.{EndsAreVertices}
 use Rattle.compact_types.specs.declared.plan.Piece.{Piece}
-use Rattle.drawing_read.specs.declared.spans.Span.{Span}
+use Rattle.drawing_read.specs.declared.spans.EdgeSpan.{EdgeSpan}
 use Rattle.drawing_read.specs.Written.{graph_of}
 use Rattle.drawing_read.specs.Spans.{points_in, spans_in, pieces_in}
 use Rattle.drawing_read.specs.Faults.{graph_fault}
 use Rattle.drawing_read.specs.Spots.{graph_spots}
 use Rattle.drawing_read.proofs.RouteLemmas.{few_points, few_pieces, spans_fit}
 use Rattle.drawing_read.proofs.EndLemmas.{pieces_join_vertices}
-use Rattle.drawing_read.proofs.Faultless.{has_no_fault}
+use Rattle.drawing_read.proofs.FaultlessGraphs.{has_no_fault}
 use Rattle.drawing_read.proofs.graph.graph_reading.Goals as goal
 
 pub first_fault-requires-clause-few_vertices : goal.first_fault-requires-clause-few_vertices
@@ -27,7 +27,7 @@ returns-in-Some-clause-fault c = ap graph_fault (sym c.in_ok-graph.ensures.graph
 pub graph_spots-requires-clause-spans : goal.graph_spots-requires-clause-spans
 graph_spots-requires-clause-spans c =
     let graph = c.in_ok-graph.graph in
-    subst (λ (spans : List Span). All (λ (span : Span). span.first + span.bends < 2 ^ 32) spans)
+    subst (λ (spans : List EdgeSpan). All (λ (span : EdgeSpan). span.first + span.bends < 2 ^ 32) spans)
     (sym (c.as_slice-2.ensures ∙ c.in_ok-layout.ensures.spans)) (spans_fit graph c.in_ok-graph.ensures.small)
 
 pub reading_of-requires-clause-few : goal.reading_of-requires-clause-few
@@ -56,5 +56,5 @@ returns-clause-reading c =
       vertices = c.reading_of.ensures.vertices ∙ ap length points;
       pieces = c.reading_of.ensures.pieces ∙ layout.pieces ∙ ap pieces_in graph;
       places = c.reading_of.ensures.places ∙ points;
-      spots = c.reading_of.ensures.spots ∙ c.in_ok-spots.ensures ∙ ap (λ (spans : List Span). graph_spots (c.args.at ∷ []) spans 0 0 0 c.args.pairs.now) spans;
+      spots = c.reading_of.ensures.spots ∙ c.in_ok-spots.ensures ∙ ap (λ (spans : List EdgeSpan). graph_spots (c.args.at ∷ []) spans 0 0 0 c.args.pairs.now) spans;
     }

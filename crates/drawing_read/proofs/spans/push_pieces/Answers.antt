@@ -1,6 +1,6 @@
 use Rattle.std.proofs.Common.{◌+◌, ◌++◌, arith}
 use Rattle.drawing_read.specs.Spans.{span_pieces}
-use Rattle.drawing_read.proofs.Steps.{chain_more}
+use Rattle.drawing_read.proofs.LoopSteps.{chain_more}
 use Rattle.drawing_read.proofs.spans.push_pieces.Goals as goal
 
 pub loop-bend-preserved : goal.loop-bend-preserved

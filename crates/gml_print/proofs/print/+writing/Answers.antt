@@ -5,7 +5,7 @@ use Rattle.std.proofs.lemmas.Result.{on_ok_weaker}
 use Rattle.gml_text.specs.declared.marks.TheConstants.{SPACE}
 use Rattle.gml_print.specs.Printing.{printed_at, indentation}
 use Rattle.gml_print.specs.inner.Pieces.{pair_text}
-use Rattle.gml_print.proofs.Printed.{indentation_deeper, bracketed_pieces, printed_at_lines}
+use Rattle.gml_print.proofs.TextEquations.{indentation_deeper, bracketed_pieces, printed_at_lines}
 use Rattle.gml_print.proofs.print.+writing.Goals as goal
 
 -- the pieces of a list, with its pairs one depth deeper

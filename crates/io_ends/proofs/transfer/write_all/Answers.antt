@@ -1,5 +1,5 @@
 use Rattle.std.proofs.Common.{arith}
-use Rattle.io_ends.proofs.Fronts.{Appends-further}
+use Rattle.io_ends.proofs.AddedBytes.{Appends-further}
 use Rattle.io_ends.proofs.transfer.write_all.Goals as goal
 
 pub loop-at-preserved : goal.loop-at-preserved

@@ -1,4 +1,4 @@
-use Rattle.separation.proofs.Sorted.{drawing_from_none, pair_from_best}
+use Rattle.separation.proofs.SortedSegments.{drawing_from_none, pair_from_best}
 use Rattle.separation.proofs.branching.pair_with.Goals as goal
 
 pub returns-in_default : goal.returns-in_default

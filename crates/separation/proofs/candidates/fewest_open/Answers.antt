@@ -16,8 +16,8 @@ loop-found-init c = λ axis choices places setting are in_order first.
 
 pub loop-found-preserved : goal.loop-found-preserved
 loop-found-preserved c = λ axis choices places setting are in_order first.
-    subst (λ (at : Position). IsBestOf c.args.bars.now choices places (IsSwept c.args.extents.now at) c.first_of-best.result) (sym c.past-at-in-Some.ensures)
-    (subst (λ (best : Candidate). IsBestOf c.args.bars.now choices places (IsSwept c.args.extents.now (past c.in-Some.found)) best) (sym c.first_of-best.ensures)
+    subst (λ (at : Position). IsBestOf c.args.bars.now choices places (IsSwept c.args.extents.now at) c.first_candidate-best.result) (sym c.past-at-in-Some.ensures)
+    (subst (λ (best : Candidate). IsBestOf c.args.bars.now choices places (IsSwept c.args.extents.now (past c.in-Some.found)) best) (sym c.first_candidate-best.ensures)
     (best_next c.args.bars.now choices places c.args.extents.now c.loop-found.at c.in-Some.found c.loop-found.best c.candidate_of.result
     (c.loop-found.invariant axis choices places setting are in_order first)
     (record { s = c.candidate_of.ensures.s; t = c.candidate_of.ensures.t; open_sides = c.candidate_of.ensures.«open» choices setting.reach_of })

@@ -2,7 +2,7 @@ use Rattle.std.proofs.Common.{◌≡◌, ◌<◌, ℕ, length, ◌∙◌, arith}
 use Rattle.bars.specs.Segments.{segment_count}
 use Rattle.separation.specs.inner.Extents.{extent_at}
 use Rattle.separation.proofs.EndLemmas.{segments_turned, extents_turned}
-use Rattle.separation.proofs.Sorted.{sorted_in_shape, sorted_extents, each_seen}
+use Rattle.separation.proofs.SortedSegments.{sorted_in_shape, sorted_extents, each_seen}
 use Rattle.separation.proofs.extents.put_in_order.Goals as goal
 
 pub returns-clause-in_shape : goal.returns-clause-in_shape

@@ -1,5 +1,5 @@
 use Rattle.separation.specs.inner.Candidates.{IsSetting}
-use Rattle.separation.proofs.Sorted.{drawing_from_none, pair_from_best}
+use Rattle.separation.proofs.SortedSegments.{drawing_from_none, pair_from_best}
 use Rattle.separation.proofs.splitting.splitting_with.Goals as goal
 
 pub returns-in_default : goal.returns-in_default

@@ -1,5 +1,5 @@
 use Rattle.std.proofs.Common.{inr, refl}
-use Rattle.separation.proofs.Turning.{turned_pair}
+use Rattle.separation.proofs.PairOrder.{turned_pair}
 use Rattle.separation.proofs.sweep.in_order.Goals as goal
 
 pub returns-else-a-b : goal.returns-else-a-b

@@ -1,6 +1,6 @@
 use Rattle.compact_types.specs.declared.places.Axis.TheVariants.{X, Y}
 use Rattle.shape_graphs.specs.Graphs.{choice_arc_along}
-use Rattle.shape_graphs.proofs.Pushing.{pushed_list}
+use Rattle.shape_graphs.proofs.AddedArcs.{pushed_list}
 use Rattle.shape_graphs.proofs.graphs.push_choices.Goals as goal
 
 pub loop-i-preserved : goal.loop-i-preserved

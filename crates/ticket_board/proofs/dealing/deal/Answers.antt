@@ -1,5 +1,5 @@
 use Rattle.std.proofs.Common.{arith, ◌≡◌, ◌+◌, ◌≤◌, ◌<◌, refl, ap, sym, subst, ◌∙◌, [], vec_len, ℕ}
-use Rattle.ticket_board.specs.Passes.{AreNewcomers, Home, PassView, newcomer}
+use Rattle.ticket_board.specs.Passes.{AreNewcomers, BoardHome, PassView, new_pass}
 use Rattle.ticket_board.specs.inner.Views.{dealer_after, dealt_next, pass_of, view_in}
 use Rattle.ticket_board.proofs.DealtSeats.{deals}
 use Rattle.ticket_board.proofs.NewPasses.{newcomers_with}
@@ -26,13 +26,13 @@ loop-k-preserved g c =
     let me = c.loop-k.invariant.2.me_is in
     let split = c.split_seat-seat.ensures in
     let start = c.args.desk.now.key.board.value in
-    let home : Home = record { table = c.args.desk.now.table_id; shape = start.shape } in
+    let home : BoardHome = record { table = c.args.desk.now.table_id; shape = start.shape } in
     let badge = c.into_badge.ensures in
     let table = split.3 ∙ c.loop-k.invariant.0 in
     let count : vec_len c.loop-k.passes + 1 ≡ c.loop-k.k = c.loop-k.invariant.4 in
     let number : c.args.first + c.loop-k.k ≡ c.args.first + 1 + vec_len c.loop-k.passes = omega arith in
-    let last : pass_of c.into_badge.result.table_id (view_in c.into_badge.result.views) ≡ newcomer home (c.args.first + 1 + vec_len c.loop-k.passes) start.entries =
-    (λ i. pass_of (badge.0 i) (view_in (badge.2 i))) ∙ (λ i. pass_of (table i) (split.4 i).0) ∙ (λ i. pass_of c.args.desk.now.table_id (dealt_next (me i).0)) ∙ ap (λ n. newcomer home n start.entries) number in
+    let last : pass_of c.into_badge.result.table_id (view_in c.into_badge.result.views) ≡ new_pass home (c.args.first + 1 + vec_len c.loop-k.passes) start.entries =
+    (λ i. pass_of (badge.0 i) (view_in (badge.2 i))) ∙ (λ i. pass_of (table i) (split.4 i).0) ∙ (λ i. pass_of c.args.desk.now.table_id (dealt_next (me i).0)) ∙ ap (λ n. new_pass home n start.entries) number in
     let longer : vec_len c.push_reserved.new.self ≡ vec_len c.loop-k.passes + 1 = c.push_reserved.ensures.len in
     let with = newcomers_with home (c.args.first + 1) (vec_len c.loop-k.passes) start.entries _ _ c.loop-k.invariant.3 last in (
       split.0 ∙ c.loop-k.invariant.0,

@@ -1,4 +1,4 @@
-use Rattle.bars.proofs.Sharing.{cross_read}
+use Rattle.bars.proofs.SharedVertices.{cross_read}
 use Rattle.bars.proofs.segments.Bars.cross.Goals as goal
 
 pub returns : goal.returns

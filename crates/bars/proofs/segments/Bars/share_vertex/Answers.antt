@@ -1,5 +1,5 @@
 use Rattle.std.proofs.Common.{sym, ◌∙◌, arith}
-use Rattle.bars.proofs.Sharing.{row_below, column_below, share_turned, shared_by_cross, shared_by_lines, tests_same, tests_differ, tests_differ_back}
+use Rattle.bars.proofs.SharedVertices.{row_below, column_below, share_turned, shared_by_cross, shared_by_lines, tests_same, tests_differ, tests_differ_back}
 use Rattle.bars.proofs.segments.Bars.share_vertex.Goals as goal
 
 pub cross-requires-clause-row : goal.cross-requires-clause-row

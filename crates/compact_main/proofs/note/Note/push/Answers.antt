@@ -1,7 +1,7 @@
 use Rattle.std.proofs.Common.{◌≡◌, ◌+◌, ◌-◌, ◌++◌, length, min, arith, ap, sym, ◌∙◌, length-take-le}
 use Rattle.std.proofs.lemmas.Slice.{take-put_mid}
 use Rattle.compact_main.specs.declared.note.TheConstants.{NOTE_ROOM}
-use Rattle.compact_main.proofs.Lines.{fitted}
+use Rattle.compact_main.proofs.LineLengths.{fitted}
 use Rattle.compact_main.proofs.note.Note.push.Goals as goal
 
 pub returns : goal.returns

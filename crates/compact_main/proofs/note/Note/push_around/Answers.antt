@@ -1,4 +1,4 @@
-use Rattle.compact_main.proofs.Lines.{then}
+use Rattle.compact_main.proofs.LineLengths.{then}
 use Rattle.compact_main.proofs.note.Note.push_around.Goals as goal
 
 pub returns-clause-added : goal.returns-clause-added

@@ -1,5 +1,5 @@
 use Rattle.std.proofs.Common.{◌≡◌, ◌+◌, ◌-◌, ◌*◌, ◌∙◌, length, get_or, set, take, ap, sym, subst, arith}
-use Rattle.diff_flow.specs.declared.steps.Step.{Step}
+use Rattle.diff_flow.specs.declared.steps.ResidualArc.{ResidualArc}
 use Rattle.diff_flow.specs.inner.Steps.{step_at, AreStepsWithin, ArePaired, AreRows}
 use Rattle.diff_flow.proofs.GrownSteps.{two_less, within_shrunk, paired_shrunk, rows_shrunk}
 use Rattle.diff_flow.proofs.steps.Steps.pop.Goals as goal
@@ -19,9 +19,9 @@ invariant_of-self c =
     let items = c.truncate.ensures.items in
     let all : length self.list.items ≡ 2 * (self.arcs - 1) + 2 = omega (arith, self.paired.two_for_each, c.requires) in
     let begins : (step_at self.list.items (2 * (self.arcs - 1))).from ≡ c.along-step.result.from =
-    ap (λ (s : Step). s.from) (sym c.along-step.ensures.is) in
+    ap (λ (s : ResidualArc). s.from) (sym c.along-step.ensures.is) in
     let ends : (step_at self.list.items (2 * (self.arcs - 1) + 1)).from ≡ c.along-step.result.to =
-    (paired.back (self.arcs - 1) (omega arith)).from ∙ ap (λ (s : Step). s.to) (sym c.along-step.ensures.is) in
+    (paired.back (self.arcs - 1) (omega arith)).from ∙ ap (λ (s : ResidualArc). s.to) (sym c.along-step.ensures.is) in
     let rows = rows_shrunk self.nodes (2 * (self.arcs - 1)) from to list last before all begins ends c.along-step.ensures.within.from
     c.along-step.ensures.within.to self.by_node in
     let less = two_less self.nodes (self.arcs - 1) self.reach list paired in

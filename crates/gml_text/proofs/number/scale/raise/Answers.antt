@@ -1,5 +1,5 @@
 use Rattle.std.proofs.Common.{refl}
-use Rattle.gml_text.proofs.Scaling.{many_tens}
+use Rattle.gml_text.proofs.PowersOfTen.{many_tens}
 use Rattle.gml_text.proofs.number.scale.raise.Goals as goal
 
 pub returns-then-tens-gt13 : goal.returns-then-tens-gt13
