@@ -196,7 +196,7 @@ fn round(alloc: Global, graph: &DiffGraph, trail: &Trail, met: u32) -> Result<It
 {
     let walk = trail.walk.as_slice();
     let next = trail.next.as_slice();
-    let mut arcs = Items::new(alloc);
+    let mut arcs = Items::from_vec(Vec::with_capacity(alloc, walk.len())?);
     let mut k = walk.len();
     while k > 0 {
         k -= 1;
