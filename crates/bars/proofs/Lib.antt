@@ -9,7 +9,7 @@ pub mod SegmentEnds
 pub mod LineOrder
 pub mod NodeBounds
 pub mod FewSegments
-pub mod Laws
+pub mod SharedLemmas
 pub mod LineTables
 pub mod MarkTables
 pub mod CrossingTable

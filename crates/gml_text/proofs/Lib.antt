@@ -7,7 +7,7 @@ pub mod FirstFaults
 pub mod LongestFronts
 pub mod ValueInduction
 pub mod Keys
-pub mod Laws
+pub mod SharedLemmas
 pub mod TreeLevels
 pub mod NumeralLaws
 pub mod NumeralParts

@@ -11,7 +11,7 @@ pub mod KeyLemmas
 pub mod FilterMaps
 pub mod GraphArcs
 pub mod NumbersFromPlaces
-pub mod Laws
+pub mod SharedLemmas
 pub mod FewArcs
 pub mod GraphFacts
 pub mod PlacesFromNumbers

@@ -1,4 +1,4 @@
-use Rattle.drawing_read.proofs.Laws.{reading_alike}
+use Rattle.drawing_read.proofs.SharedLemmas.{reading_alike}
 use Rattle.gml_print.specs.Places.{placed, moved_reading}
 use Rattle.gml_print.proofs.ReadsBack.{reads_back}
 use Rattle.gml_print.proofs.PlacedGrammar.{placed_within}
