@@ -9,7 +9,7 @@ pub mod SegmentEnds
 pub mod LineOrder
 pub mod NodeBounds
 pub mod FewSegments
-pub mod SharedLemmas
+pub mod Laws
 pub mod LineTables
 pub mod MarkTables
 pub mod CrossingTable

@@ -10,7 +10,7 @@ use Rattle.compact_types.specs.Groups.{merged}
 use Rattle.compact_types.specs.Lookups.{piece_at}
 use Rattle.compact_types.specs.Connected.{AreJoined, IsAlong, AreInLine}
 use Rattle.compact_types.specs.Connected.AreJoined.{start, forward, backward}
-use Rattle.compact_types.proofs.SharedLemmas.{relabelled_is, max_and_min}
+use Rattle.compact_types.proofs.Laws.{relabelled_is, max_and_min}
 use Rattle.bars.specs.Lines.{is_axis, is_along, least_by, least_in_line}
 
 -- joined vertices through a third

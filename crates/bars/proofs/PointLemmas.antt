@@ -10,7 +10,7 @@ use Rattle.compact_types.specs.Connected.{IsConnected}
 use Rattle.compact_types.specs.Drawings.{IsCrossingFree}
 use Rattle.compact_types.specs.Lookups.{EndsAreVertices, points_at, pieces_between}
 use Rattle.compact_types.specs.Refusals.{Decides, Gives}
-use Rattle.compact_types.proofs.SharedLemmas.{same_plan, same_places}
+use Rattle.compact_types.proofs.Laws.{same_plan, same_places}
 use Rattle.drawing_check.specs.declared.fault.ShapeFault.{ShapeFault}
 use Rattle.drawing_check.specs.Shapes.{IsShapeOf}
 use Rattle.bars.specs.Points.{HaveNoDrawing, IsDrawnAt}

@@ -16,7 +16,7 @@ use Rattle.bars.specs.Segments.{Segment, has_piece, first_vertex, last_vertex, s
 use Rattle.bars.specs.inner.Marks.{AreLineEnds}
 use Rattle.bars.specs.inner.Spans.{segment_span, spans_below, spans_along, span_at, AreSpans}
 use Rattle.bars.specs.inner.Tables.{AreLines}
-use Rattle.compact_types.proofs.SharedLemmas.{range_push}
+use Rattle.compact_types.proofs.Laws.{range_push}
 use Rattle.bars.proofs.RangeSearches.{found_below}
 use Rattle.bars.proofs.SegmentLists.{lines, IsNumbered, numbered, count_is}
 use Rattle.bars.proofs.SegmentLists.IsNumbered.{of_row, of_column}

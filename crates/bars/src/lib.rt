@@ -7,14 +7,14 @@
 #![tactic(auto)]
 
 mod crossings;
-mod laws;
+mod law;
 mod lines;
 mod marks;
 mod points;
 mod segments;
 mod spans;
 
-pub use laws::{
+pub use law::{
     lines_are_numbered, lines_stand_in_order, nodes_are_ends, segments_are_lines_with_pieces,
 };
 pub use points::bars_of_points;

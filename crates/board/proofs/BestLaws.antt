@@ -13,7 +13,7 @@ use Rattle.compact_types.specs.Drawings.{IsDrawing, IsFromZero, begin_of, end_of
 use Rattle.compact_types.specs.Lengths.{distance, gap}
 use Rattle.compact_types.specs.Moves.{moved}
 use Rattle.compact_types.specs.Orders.{IsBefore}
-use Rattle.compact_types.proofs.SharedLemmas.{before_trans, drawing-moved, plain_length-moved, same_key, some_from_zero, sum_to-not_greater, sum_to-nothing}
+use Rattle.compact_types.proofs.Laws.{before_trans, drawing-moved, plain_length-moved, same_key, some_from_zero, sum_to-not_greater, sum_to-nothing}
 use Rattle.shape_graphs.specs.declared.measure.Verdict.{Verdict}
 use Rattle.board.specs.declared.entries.Settled.TheVariants as settled
 use Rattle.board.specs.declared.standings.Standing.{Standing}

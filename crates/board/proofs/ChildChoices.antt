@@ -8,7 +8,7 @@ use Rattle.compact_types.specs.declared.search.Choice.{Choice}
 use Rattle.bars.specs.Segments.{IsPair}
 use Rattle.bars.specs.Solutions.{IsSound, IsChoice, Solves, choice_at, with_choice}
 use Rattle.separation.specs.Meetings.{ShareAPoint}
-use Rattle.separation.proofs.SharedLemmas.{chosen_apart}
+use Rattle.separation.proofs.Laws.{chosen_apart}
 use Rattle.board.specs.Facts.{AreSound}
 use Rattle.board.specs.Histories.{children_of}
 use Rattle.board.proofs.CoveredDrawings.{child_is}

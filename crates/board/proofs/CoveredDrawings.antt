@@ -10,14 +10,14 @@ use Rattle.compact_types.specs.declared.search.Choice.{Choice}
 use Rattle.compact_types.specs.Bests.{Objective, IsAttained, worth_of, key_of}
 use Rattle.compact_types.specs.Drawings.{IsDrawing, IsFromZero}
 use Rattle.compact_types.specs.Orders.{IsBefore}
-use Rattle.compact_types.proofs.SharedLemmas.{before_or_equal, before_trans}
+use Rattle.compact_types.proofs.Laws.{before_or_equal, before_trans}
 use Rattle.bars.specs.Segments.{IsPair}
 use Rattle.bars.specs.Sides.{SideHolds}
 use Rattle.bars.specs.Solutions.{HasDrawing, Fit, Solves, with_choice}
 use Rattle.shape_graphs.specs.Graphs.{arcs_of}
 use Rattle.shape_graphs.specs.Measures.{IsBoundAbove, IsFirstCyclic, IsLeastKey}
-use Rattle.shape_graphs.proofs.SharedLemmas.{cycle_is_one, no_cycle_where_solved, not_before_least}
-use Rattle.separation.proofs.SharedLemmas.{side_in_drawing, solves_one_more}
+use Rattle.shape_graphs.proofs.Laws.{cycle_is_one, no_cycle_where_solved, not_before_least}
+use Rattle.separation.proofs.Laws.{side_in_drawing, solves_one_more}
 use Rattle.board.specs.declared.entries.Entry.TheVariants as entries
 use Rattle.board.specs.declared.entries.Settled.{Settled}
 use Rattle.board.specs.declared.entries.Settled.TheVariants as settled

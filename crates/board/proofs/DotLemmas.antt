@@ -12,10 +12,10 @@ use Rattle.compact_types.specs.Connected.{IsJoined}
 use Rattle.compact_types.specs.Connected.AreJoined.{start}
 use Rattle.compact_types.specs.Drawings.{IsDrawing, IsFromZero}
 use Rattle.compact_types.specs.Lookups.{along, origin, place}
-use Rattle.compact_types.proofs.SharedLemmas.{drawing_of_crossing_free}
+use Rattle.compact_types.proofs.Laws.{drawing_of_crossing_free}
 use Rattle.bars.specs.Solutions.{IsSound, Solves}
 use Rattle.shape_graphs.specs.Measures.{IsFoundLeast}
-use Rattle.shape_graphs.proofs.SharedLemmas.{no_cycle_where_solved}
+use Rattle.shape_graphs.proofs.Laws.{no_cycle_where_solved}
 use Rattle.board.specs.Facts.{IsDrawnKey}
 
 -- the shape has one vertex and no piece

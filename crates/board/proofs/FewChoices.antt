@@ -7,7 +7,7 @@ use Rattle.compact_types.specs.declared.plan.Shape.{Shape}
 use Rattle.compact_types.specs.declared.search.Choice.{Choice}
 use Rattle.bars.specs.Segments.{segment_count}
 use Rattle.bars.specs.Solutions.{IsSound, choice_at}
-use Rattle.bars.proofs.SharedLemmas.{few_segments}
+use Rattle.bars.proofs.Laws.{few_segments}
 use Rattle.board.specs.Facts.{AreSound}
 
 -- the numbers of m places are different

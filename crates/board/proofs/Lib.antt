@@ -16,4 +16,4 @@ pub mod SettledFacts
 pub mod BestLaws
 pub mod TableLemmas
 pub mod DotLemmas
-pub mod SharedLemmas
+pub mod Laws

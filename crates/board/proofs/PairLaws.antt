@@ -7,7 +7,7 @@ use Rattle.compact_types.specs.Drawings.{IsDrawing}
 use Rattle.shape_graphs.specs.declared.measure.Verdict.{Verdict}
 use Rattle.shape_graphs.specs.declared.measure.Verdict.TheVariants.{Cyclic, Above, Least}
 use Rattle.separation.specs.Branching.{IsBranchPair}
-use Rattle.separation.proofs.SharedLemmas.{apart_from_drawn}
+use Rattle.separation.proofs.Laws.{apart_from_drawn}
 use Rattle.board.specs.Verdicts.{IsBranchPairFor, IsPairAt, IsPairFor}
 
 module _ (shape : Shape) (choices : List Choice) (incumbent key : Key) where

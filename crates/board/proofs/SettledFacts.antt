@@ -9,12 +9,12 @@ use Rattle.compact_types.specs.declared.search.Choice.{Choice}
 use Rattle.compact_types.specs.Bests.{Objective, key_of, worth_of}
 use Rattle.compact_types.specs.Drawings.{IsDrawing, IsFromZero}
 use Rattle.compact_types.specs.Orders.{IsBefore}
-use Rattle.compact_types.proofs.SharedLemmas.{before_trans, not_before_itself}
+use Rattle.compact_types.proofs.Laws.{before_trans, not_before_itself}
 use Rattle.bars.specs.Solutions.{Solves}
 use Rattle.shape_graphs.specs.declared.measure.Verdict.{Verdict}
 use Rattle.shape_graphs.specs.declared.measure.Verdict.TheVariants.{Cyclic, Above, Least}
 use Rattle.shape_graphs.specs.Measures.{IsLeastKey}
-use Rattle.shape_graphs.proofs.SharedLemmas.{not_before_least}
+use Rattle.shape_graphs.proofs.Laws.{not_before_least}
 use Rattle.separation.specs.Branching.{IsBranchPair}
 use Rattle.board.specs.declared.entries.Entry.TheVariants as entries
 use Rattle.board.specs.declared.entries.Settled.{Settled}

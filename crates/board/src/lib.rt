@@ -9,14 +9,14 @@ mod boards;
 mod branches;
 mod chains;
 mod entries;
-mod laws;
+mod law;
 mod standings;
 #[cfg(test)]
 mod tests;
 
 pub use boards::Board;
 pub use entries::{Claim, Entry, SettleFault, Settled};
-pub use laws::{
+pub use law::{
     all_settled, branch_pairs_settle, branches_are_told, branches_differ, branches_stay,
     callers_stay, choices_are_few, histories_grow, holders_hold, no_open_branch_is_best,
     nothing_opens_again, splits_have_children, splits_name_a_pair, work_falls,

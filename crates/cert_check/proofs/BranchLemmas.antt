@@ -13,7 +13,7 @@ use Rattle.bars.specs.Solutions.{Fit, with_choice}
 use Rattle.shape_graphs.specs.declared.growing.GrowingGraphs.{GrowingGraphs}
 use Rattle.shape_graphs.specs.Flows.{amount_at}
 use Rattle.shape_graphs.specs.Growing.{AreGrown, amounts_on, graph_on, with_nothing, without_last}
-use Rattle.shape_graphs.proofs.SharedLemmas.{fit_less, fit_more, last_fits}
+use Rattle.shape_graphs.proofs.Laws.{fit_less, fit_more, last_fits}
 use Rattle.board.specs.Histories.{children_of}
 use Rattle.cert_check.specs.inner.Branches.{IsAt, later, later_from, later_sides}
 use Rattle.cert_check.specs.inner.Loading.{HaveLoads}

@@ -13,17 +13,17 @@ use Rattle.compact_types.specs.declared.search.Choice.{Choice}
 use Rattle.compact_types.specs.declared.search.Flows.{Flows}
 use Rattle.compact_types.specs.Lookups.{along, origin, place}
 use Rattle.compact_types.specs.Orders.{IsListBefore, IsPointBefore, numbers_of}
-use Rattle.compact_types.proofs.SharedLemmas.{list_before_trans, list_not_before_itself, same_point}
+use Rattle.compact_types.proofs.Laws.{list_before_trans, list_not_before_itself, same_point}
 use Rattle.bars.specs.Segments.{node_count, node_of}
 use Rattle.bars.specs.Solutions.{Fit, IsSound}
 use Rattle.shape_graphs.specs.Backings.{flow_of}
 use Rattle.shape_graphs.specs.Graphs.{arcs_of}
 use Rattle.shape_graphs.specs.Flows.{number_at}
-use Rattle.shape_graphs.proofs.SharedLemmas.{places_by}
+use Rattle.shape_graphs.proofs.Laws.{places_by}
 use Rattle.diff_flow.specs.Tight.{AreLeastTight, AreTight}
 use Rattle.potentials.specs.Standing.{StandAt, numbers_along}
 use Rattle.potentials.specs.TightPlaces.{AreLeastTightPlaces}
-use Rattle.potentials.proofs.SharedLemmas.{least_tight_places, none_where_none, places_by_stand}
+use Rattle.potentials.proofs.Laws.{least_tight_places, none_where_none, places_by_stand}
 use Rattle.shape_graphs.specs.declared.graph.Arc.{Arc}
 use Rattle.shape_graphs.specs.declared.graph.DiffGraph.{DiffGraph}
 use Rattle.shape_graphs.specs.Graphs.{IsGraphOf}

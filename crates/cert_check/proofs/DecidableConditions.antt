@@ -14,7 +14,7 @@ use Rattle.compact_types.specs.declared.plan.Shape.{Shape}
 use Rattle.compact_types.specs.Drawings.{IsFromZero, IsLeastZero}
 use Rattle.compact_types.specs.Lookups.{along, place}
 use Rattle.compact_types.specs.Orders.{IsPointBefore}
-use Rattle.compact_types.proofs.SharedLemmas.{compare_numbers, same_point}
+use Rattle.compact_types.proofs.Laws.{compare_numbers, same_point}
 use Rattle.compact_types.specs.declared.search.Choice.{Choice}
 use Rattle.compact_types.specs.declared.search.Flows.{Flows}
 use Rattle.bars.specs.Lines.{line_of}

@@ -13,7 +13,7 @@ use Rattle.cert_text.specs.declared.tree.CertNode.{CertNode}
 use Rattle.compact_types.specs.Drawings.{IsDrawing, IsFromZero}
 use Rattle.cert_text.specs.Accepting.{Accepts, AreGood}
 use Rattle.cert_text.specs.Trees.{IsShallow}
-use Rattle.cert_text.proofs.SharedLemmas.{accepted_best}
+use Rattle.cert_text.proofs.Laws.{accepted_best}
 use Rattle.cert_check.specs.declared.fault.CheckFault.{CheckFault}
 use Rattle.cert_check.specs.Faults.{FirstCheckFault, IsFirstIn}
 use Rattle.cert_check.proofs.BoundLemmas.{other_value, other_words}

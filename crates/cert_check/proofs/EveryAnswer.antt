@@ -15,30 +15,30 @@ use Rattle.compact_types.specs.Bests.{worth_of}
 use Rattle.compact_types.specs.Lookups.{place}
 use Rattle.compact_types.specs.Orders.{IsListBefore, IsPointBefore, numbers_of}
 use Rattle.compact_types.specs.Refusals.{HasOneAnswer}
-use Rattle.compact_types.proofs.SharedLemmas.{compare_numbers}
+use Rattle.compact_types.proofs.Laws.{compare_numbers}
 use Rattle.bars.specs.Segments.{IsPair}
 use Rattle.bars.specs.Solutions.{Fit, IsSound, with_choice}
 use Rattle.shape_graphs.specs.Backings.{AreBalanced, IsBalanced, bound_by}
 use Rattle.shape_graphs.specs.Graphs.{arcs_of}
 use Rattle.shape_graphs.specs.Measures.{HaveNoCycle, IsLeastKey}
 use Rattle.shape_graphs.specs.Paths.{HasCycle, IsCycle}
-use Rattle.shape_graphs.proofs.SharedLemmas.{cycle_decided, no_cycle_where_solved}
+use Rattle.shape_graphs.proofs.Laws.{cycle_decided, no_cycle_where_solved}
 use Rattle.potentials.specs.TightPlaces.{AreLeastTightPlaces}
-use Rattle.potentials.proofs.SharedLemmas.{bound_at_tight, some_least_key, worth_above}
+use Rattle.potentials.proofs.Laws.{bound_at_tight, some_least_key, worth_above}
 use Rattle.cert_text.specs.declared.tree.CertNode.{CertNode}
 use Rattle.cert_text.specs.declared.tree.CertNode.TheVariants.{Split, Bound, Cycle}
 use Rattle.cert_text.specs.declared.tree.Load.{Load}
 use Rattle.cert_text.specs.Accepting.{Accepts, AreGood, AreOnArcs, IsGoodBound, IsGoodEntry, flows_of, opened_by, NoneEarlier}
 use Rattle.cert_text.specs.Loads.{IsInRange, IsLoad}
 use Rattle.cert_text.specs.Trees.{IsShallow, IsWhole}
-use Rattle.cert_text.proofs.SharedLemmas.{tight_from_least}
+use Rattle.cert_text.proofs.Laws.{tight_from_least}
 use Rattle.cert_check.specs.declared.fault.CheckFault.{CheckFault}
 use Rattle.cert_check.specs.declared.fault.CheckFault.TheVariants.{NotFromZero, BadPair, NotACycle}
 use Rattle.cert_check.specs.Faults.{AreBothOnArcs, FirstCheckFault, IsBoundFault, IsEarlierAt, IsEntryFault, IsFirstBreak, IsFirstIn, IsFirstOffArcs, IsUnbalancedAt}
 use Rattle.cert_check.specs.Faults.IsBoundFault.{no_x_arc, no_y_arc, x_unbalanced, y_unbalanced, too_low, too_late}
 use Rattle.cert_check.specs.inner.Branches.{HasRoomToSplit}
 use Rattle.cert_check.specs.inner.Comparing.{AreSameBelow}
-use Rattle.shape_graphs.proofs.SharedLemmas.{fit_more}
+use Rattle.shape_graphs.proofs.Laws.{fit_more}
 use Rattle.cert_check.proofs.CompareLemmas.{first_is_greater, less_from_first, not_before_itself, same_is_not_less}
 use Rattle.cert_check.proofs.DecidableConditions.{IsFirst, all_or_first, balanced_or_not, compare_points, cycle_or_break, flow_is, from_zero_decided, on_or_off, pair_decided}
 use Rattle.cert_check.proofs.DecisionLemmas.{no_fault, only_fault}

@@ -14,7 +14,7 @@ use Rattle.compact_types.specs.declared.search.Flows.{Flows}
 use Rattle.compact_types.specs.Bests.{worth_of}
 use Rattle.compact_types.specs.Bests.Objective.{total_length}
 use Rattle.compact_types.specs.Lookups.{origin, place}
-use Rattle.compact_types.proofs.SharedLemmas.{same_point}
+use Rattle.compact_types.proofs.Laws.{same_point}
 use Rattle.shape_graphs.specs.declared.graph.Arc.{Arc}
 use Rattle.shape_graphs.specs.Backings.{AreBalanced, IsBalanced, bound_by}
 use Rattle.shape_graphs.specs.Graphs.{arcs_of}

@@ -8,4 +8,4 @@ pub mod CycleLemmas
 pub mod BoundLemmas
 pub mod DecidableConditions
 pub mod EveryAnswer
-pub mod SharedLemmas
+pub mod Laws

@@ -11,7 +11,7 @@ use Rattle.cert_text.specs.declared.tree.CertNode.{CertNode}
 use Rattle.cert_text.specs.declared.tree.CertNode.TheVariants.{Split, Bound, Cycle}
 use Rattle.cert_text.specs.Accepting.{AreGood, IsGoodEntry, opened_by}
 use Rattle.cert_text.specs.Trees.{AreShallow, IsShallow, IsWhole, depths_opened, left_after}
-use Rattle.cert_text.proofs.SharedLemmas.{opened_count}
+use Rattle.cert_text.proofs.Laws.{opened_count}
 use Rattle.cert_check.specs.declared.fault.CheckFault.{CheckFault}
 use Rattle.cert_check.specs.Faults.{IsEntryFault, IsFirstIn}
 use Rattle.cert_check.specs.inner.Branches.{HasRoomToSplit, IsNext}

@@ -8,7 +8,7 @@ mod checking;
 mod cycles;
 mod earlier;
 mod fault;
-mod laws;
+mod law;
 mod loads;
 mod sides;
 #[cfg(test)]
@@ -17,4 +17,4 @@ mod walk;
 
 pub use checking::check_cert;
 pub use fault::CheckFault;
-pub use laws::certificates_have_one_answer;
+pub use law::certificates_have_one_answer;

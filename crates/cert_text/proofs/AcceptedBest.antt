@@ -13,7 +13,7 @@ use Rattle.compact_types.specs.Drawings.{IsDrawing, IsFromZero}
 use Rattle.compact_types.specs.Orders.{IsBefore}
 use Rattle.bars.specs.Segments.{IsPair}
 use Rattle.bars.specs.Solutions.{IsSound, IsChoice, Fit, Solves, choice_at, with_choice}
-use Rattle.separation.proofs.SharedLemmas.{side_in_drawing, solves_one_more}
+use Rattle.separation.proofs.Laws.{side_in_drawing, solves_one_more}
 use Rattle.board.specs.Histories.{children_of}
 use Rattle.cert_text.specs.declared.tree.CertNode.{CertNode}
 use Rattle.cert_text.specs.declared.tree.CertNode.TheVariants.{Split, Bound, Cycle}

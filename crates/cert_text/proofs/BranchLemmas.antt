@@ -16,7 +16,7 @@ use Rattle.board.specs.Boards.{BoardView, board_state, verdict_of}
 use Rattle.board.specs.Facts.{HasBranchPair, IsKeptAt, IsSettledBy, IsSplit, LeadsTo}
 use Rattle.board.specs.Histories.{IsSettled, branch_count, choices_of, standing_of}
 use Rattle.board.specs.Verdicts.{IsSoundVerdict}
-use Rattle.board.proofs.SharedLemmas.{all_settled, none_open_is_best}
+use Rattle.board.proofs.Laws.{all_settled, none_open_is_best}
 use Rattle.cert_text.specs.declared.tree.CertNode.{CertNode}
 use Rattle.cert_text.specs.Trims.{AreEntriesOf, IsSplitStill}
 use Rattle.cert_text.specs.inner.Outlines.{BeginsCertificate, ComesFirst, HasFewAmounts, HasFirstKey, HasPointsOf, IsFurther, closing_of}

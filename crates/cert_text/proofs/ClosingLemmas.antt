@@ -16,7 +16,7 @@ use Rattle.compact_types.specs.Drawings.{IsDrawing}
 use Rattle.compact_types.specs.Bests.{worth_of}
 use Rattle.compact_types.specs.Moves.{moved}
 use Rattle.compact_types.specs.Orders.{IsBefore, IsListBefore, numbers_of}
-use Rattle.compact_types.proofs.SharedLemmas.{before_or_equal, drawing-moved, list_before_trans, list_not_before_itself, plain_length-moved, some_from_zero}
+use Rattle.compact_types.proofs.Laws.{before_or_equal, drawing-moved, list_before_trans, list_not_before_itself, plain_length-moved, some_from_zero}
 use Rattle.bars.specs.Solutions.{IsSound, Fit}
 use Rattle.shape_graphs.specs.declared.measure.Verdict.{Verdict}
 use Rattle.shape_graphs.specs.declared.measure.Verdict.TheVariants.{Cyclic, Above, Least}
@@ -24,9 +24,9 @@ use Rattle.shape_graphs.specs.Backings.{AreBalanced, DoBack, bound_by, flow_of}
 use Rattle.shape_graphs.specs.Graphs.{arcs_of}
 use Rattle.shape_graphs.specs.Measures.{IsLeastKey}
 use Rattle.shape_graphs.specs.Paths.{IsCycle}
-use Rattle.shape_graphs.proofs.SharedLemmas.{one_least}
+use Rattle.shape_graphs.proofs.Laws.{one_least}
 use Rattle.potentials.specs.TightPlaces.{AreLeastTightPlaces}
-use Rattle.potentials.proofs.SharedLemmas.{graph_of, least_from_tight}
+use Rattle.potentials.proofs.Laws.{graph_of, least_from_tight}
 use Rattle.board.specs.Facts.{IsDrawnKey}
 use Rattle.board.specs.Verdicts.{IsSoundVerdict}
 use Rattle.cert_text.specs.declared.trimming.TheConstants.{MOST_SPLITS}

@@ -13,15 +13,15 @@ use Rattle.compact_types.specs.Bests.Objective.{total_length}
 use Rattle.compact_types.specs.Drawings.{IsFromZero}
 use Rattle.compact_types.specs.Bests.{worth_of}
 use Rattle.compact_types.specs.Orders.{IsBefore, IsListBefore, numbers_of}
-use Rattle.compact_types.proofs.SharedLemmas.{before_or_equal, list_before_trans}
+use Rattle.compact_types.proofs.Laws.{before_or_equal, list_before_trans}
 use Rattle.bars.specs.Solutions.{IsSound, Fit, Solves}
 use Rattle.shape_graphs.specs.Backings.{AreBalanced, bound_by}
 use Rattle.shape_graphs.specs.Graphs.{arcs_of}
 use Rattle.shape_graphs.specs.Measures.{IsLeastKey}
 use Rattle.shape_graphs.specs.Paths.{IsCycle}
-use Rattle.shape_graphs.proofs.SharedLemmas.{cycle_is_one, no_cycle_where_solved, not_before_least}
+use Rattle.shape_graphs.proofs.Laws.{cycle_is_one, no_cycle_where_solved, not_before_least}
 use Rattle.potentials.specs.TightPlaces.{AreLeastTightPlaces}
-use Rattle.potentials.proofs.SharedLemmas.{worth_above, tight_at_bound, bound_at_tight, some_least_key}
+use Rattle.potentials.proofs.Laws.{worth_above, tight_at_bound, bound_at_tight, some_least_key}
 use Rattle.cert_text.specs.Accepting.{DoBound, NoneEarlier}
 
 module _ (shape : Shape) (choices : List Choice) (sound : IsSound shape) (fit : Fit shape choices) where

@@ -21,4 +21,4 @@ pub mod ReadPrinted
 pub mod ReadReadings
 pub mod ReadTrees
 pub mod ReadWords
-pub mod SharedLemmas
+pub mod Laws

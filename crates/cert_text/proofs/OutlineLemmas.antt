@@ -9,14 +9,14 @@ use Rattle.compact_types.specs.declared.search.Flows.{Flows}
 use Rattle.compact_types.specs.Bests.Objective.{total_length}
 use Rattle.bars.specs.Segments.{IsPair}
 use Rattle.bars.specs.Solutions.{with_choice}
-use Rattle.bars.proofs.SharedLemmas.{few_segments}
+use Rattle.bars.proofs.Laws.{few_segments}
 use Rattle.shape_graphs.specs.Backings.{DoBack}
 use Rattle.board.specs.declared.entries.Settled.TheVariants as settled
 use Rattle.board.specs.declared.standings.Standing.TheVariants.{Done}
 use Rattle.board.specs.Boards.{BoardView, board_state}
 use Rattle.board.specs.Facts.{AreFacts}
 use Rattle.board.specs.Histories.{State, HasChildren, branch_count, children_of, choices_of, open_count_of, standing_of}
-use Rattle.board.proofs.SharedLemmas.{few_choices_of, first_choices, some_branch, splits_have_children, splits_name_a_pair}
+use Rattle.board.proofs.Laws.{few_choices_of, first_choices, some_branch, splits_have_children, splits_name_a_pair}
 use Rattle.cert_text.specs.declared.tree.CertNode.{CertNode}
 use Rattle.cert_text.specs.declared.tree.CertNode.TheVariants.{Split}
 use Rattle.cert_text.specs.declared.trimming.TheConstants.{MOST_SPLITS}

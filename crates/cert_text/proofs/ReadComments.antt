@@ -11,7 +11,7 @@ use Rattle.gml_text.specs.declared.tree.Tree.{Tree, out-Tree}
 use Rattle.gml_text.specs.declared.tree.Pair.{Pair}
 use Rattle.gml_text.specs.Bytes.{ends_in_word, lacks}
 use Rattle.gml_text.specs.Texts.{Pairs, a_comment, IsText, to_the_end, in_a_comment, Spells}
-use Rattle.gml_text.proofs.SharedLemmas.{ends_in_word-append}
+use Rattle.gml_text.proofs.Laws.{ends_in_word-append}
 use Rattle.cert_text.specs.declared.tree.CertNode.{CertNode}
 use Rattle.cert_text.specs.declared.tree.CertNode.TheVariants.{Split, Bound, Cycle}
 use Rattle.cert_text.specs.Certificates.{IsBeforeLine, IsPitch}

@@ -6,7 +6,7 @@
 #![tactic(auto)]
 
 mod fault;
-mod laws;
+mod law;
 mod printing;
 mod reading;
 #[cfg(test)]
@@ -15,7 +15,7 @@ mod tree;
 mod trimming;
 
 pub use fault::{CertFault, CertKind};
-pub use laws::{
+pub use law::{
     accepted_is_best, certificates_are_comments, made_is_best, printed_certificates_are_read,
     shallower, texts_have_one_answer, whole_trees_are_shallow,
 };

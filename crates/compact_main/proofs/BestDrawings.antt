@@ -18,7 +18,7 @@ use Rattle.compact_types.specs.Bests.{total_length, IsBest, key_of}
 use Rattle.compact_types.specs.Drawings.{IsDrawing}
 use Rattle.compact_types.specs.Magnitudes.{AreWithin}
 use Rattle.compact_types.specs.Orders.{IsBefore}
-use Rattle.compact_types.proofs.SharedLemmas.{one_best, same_key}
+use Rattle.compact_types.proofs.Laws.{one_best, same_key}
 use Rattle.bars.specs.Segments.{segment_count, IsPair}
 use Rattle.bars.specs.Sides.{side_axis}
 use Rattle.bars.specs.Solutions.{choice_at, with_choice, IsChoice, IsSound, Fit, Solves}
@@ -26,9 +26,9 @@ use Rattle.shape_graphs.specs.Graphs.{arcs_of}
 use Rattle.shape_graphs.specs.Measures.{HaveNoCycle}
 use Rattle.shape_graphs.specs.Paths.{HasCycle}
 use Rattle.shape_graphs.specs.Separation.{IsSeparated, IsComplete}
-use Rattle.shape_graphs.proofs.SharedLemmas.{has_choice_arc, one_arc, cycle_decided, not_before_least}
-use Rattle.separation.proofs.SharedLemmas.{drawn_from_complete, side_in_drawing, solves_one_more}
-use Rattle.potentials.proofs.SharedLemmas.{some_least_key, no_cycle_where_met, least_key_low}
+use Rattle.shape_graphs.proofs.Laws.{has_choice_arc, one_arc, cycle_decided, not_before_least}
+use Rattle.separation.proofs.Laws.{drawn_from_complete, side_in_drawing, solves_one_more}
+use Rattle.potentials.proofs.Laws.{some_least_key, no_cycle_where_met, least_key_low}
 use Rattle.gml_text.specs.declared.tree.Tree.{Tree}
 use Rattle.drawing_read.specs.declared.reading.Reading.{Reading}
 use Rattle.drawing_read.specs.Readings.{IsReading}

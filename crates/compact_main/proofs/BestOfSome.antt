@@ -8,7 +8,7 @@ use Rattle.compact_types.specs.declared.search.Choice.{Choice}
 use Rattle.compact_types.specs.Bests.{total_length, key_of}
 use Rattle.compact_types.specs.Drawings.{IsDrawing, IsFromZero}
 use Rattle.compact_types.specs.Orders.{IsBefore}
-use Rattle.compact_types.proofs.SharedLemmas.{before_or_equal, before_trans}
+use Rattle.compact_types.proofs.Laws.{before_or_equal, before_trans}
 use Rattle.bars.specs.Solutions.{Fit}
 use Rattle.shape_graphs.specs.Measures.{IsLeastKey}
 use Rattle.shape_graphs.specs.Separation.{IsComplete}

@@ -4,7 +4,7 @@ use Rattle.compact_types.specs.declared.places.Axis.TheVariants.{X, Y}
 use Rattle.compact_types.specs.declared.places.Places.{Places}
 use Rattle.compact_types.specs.declared.plan.Shape.{Shape}
 use Rattle.compact_types.specs.Bests.{total_length, IsBest, worth_of}
-use Rattle.compact_types.proofs.SharedLemmas.{one_best}
+use Rattle.compact_types.proofs.Laws.{one_best}
 use Rattle.cert_text.specs.declared.tree.CertNode.{CertNode}
 use Rattle.cert_text.specs.Texts.{certificate_text}
 use Rattle.compact_main.specs.declared.command.Command.{Command}

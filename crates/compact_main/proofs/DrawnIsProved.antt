@@ -11,22 +11,22 @@ use Rattle.compact_types.specs.declared.plan.Shape.{Shape}
 use Rattle.compact_types.specs.Drawings.{IsCrossingFree}
 use Rattle.compact_types.specs.Lookups.{place, along}
 use Rattle.compact_types.specs.Scalings.{IsScaled}
-use Rattle.compact_types.proofs.SharedLemmas.{crossing_free_of_scaled}
+use Rattle.compact_types.proofs.Laws.{crossing_free_of_scaled}
 use Rattle.drawing_check.specs.Shapes.{IsShapeOf}
 use Rattle.gml_text.specs.declared.tree.Tree.{Tree}
-use Rattle.gml_text.proofs.SharedLemmas.{spelled_within}
+use Rattle.gml_text.proofs.Laws.{spelled_within}
 use Rattle.drawing_read.specs.declared.reading.Reading.{Reading}
 use Rattle.drawing_read.specs.Readings.{IsReading}
-use Rattle.drawing_read.proofs.SharedLemmas.{reading_alike}
+use Rattle.drawing_read.proofs.Laws.{reading_alike}
 use Rattle.gml_print.specs.TextReadings.{ReadsBack}
 use Rattle.gml_print.specs.Places.{CanPut, placed, in_thousandths, moved_reading}
 use Rattle.gml_print.specs.Printing.{printed}
-use Rattle.gml_print.proofs.SharedLemmas.{reads_back, placed_within, placed_reading}
+use Rattle.gml_print.proofs.Laws.{reads_back, placed_within, placed_reading}
 use Rattle.cert_text.specs.declared.tree.CertNode.{CertNode}
 use Rattle.cert_text.specs.Certificates.{IsBeforeLine, IsPitch, IsCertificate}
 use Rattle.cert_text.specs.Loads.{IsCertTree}
 use Rattle.cert_text.specs.Texts.{certificate_text}
-use Rattle.cert_text.proofs.SharedLemmas.{printed_certificate, spelled_with_certificate}
+use Rattle.cert_text.proofs.Laws.{printed_certificate, spelled_with_certificate}
 use Rattle.compact_main.specs.declared.drawing.Drawing.{Drawing}
 use Rattle.compact_main.specs.Drawings.{HoldsDrawing, shape_of, grid_step, AreBestPlaces, IsAccepted, IsOnGridAt, text_with}
 use Rattle.compact_main.proofs.BestDrawings.{can_put}

@@ -8,7 +8,7 @@ use Rattle.bars.specs.Segments.{segment_at, segment_count, ShareVertex, IsPair}
 use Rattle.bars.specs.Sides.{side_axis}
 use Rattle.shape_graphs.specs.Graphs.{side_arc, arcs_of}
 use Rattle.shape_graphs.specs.Separation.{HasSidePath, IsSeparated}
-use Rattle.shape_graphs.proofs.SharedLemmas.{path_decided}
+use Rattle.shape_graphs.proofs.Laws.{path_decided}
 use Rattle.compact_main.specs.Summaries.{IsSeparatedPair}
 use Rattle.compact_main.proofs.DecidableFacts.{IsDecided, both}
 

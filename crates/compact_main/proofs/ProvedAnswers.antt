@@ -16,9 +16,9 @@ use Rattle.cert_text.specs.Faults.{FirstCertFault}
 use Rattle.cert_text.specs.Loads.{IsCertTree}
 use Rattle.cert_text.specs.Trees.{IsShallow}
 use Rattle.cert_check.specs.declared.fault.CheckFault.{CheckFault}
-use Rattle.compact_types.proofs.SharedLemmas.{drawing-scaled, within-scaled, one_scaled, scaled_not_off, one_first_off, some_scaled_or_off}
-use Rattle.cert_text.proofs.SharedLemmas.{accepted_best, few_entries, one_certificate, whole_shallow, shallower_from}
-use Rattle.cert_check.proofs.SharedLemmas.{one_check, only_fault, no_fault}
+use Rattle.compact_types.proofs.Laws.{drawing-scaled, within-scaled, one_scaled, scaled_not_off, one_first_off, some_scaled_or_off}
+use Rattle.cert_text.proofs.Laws.{accepted_best, few_entries, one_certificate, whole_shallow, shallower_from}
+use Rattle.cert_check.proofs.Laws.{one_check, only_fault, no_fault}
 use Rattle.gml_text.specs.declared.limits.TheConstants.{MOST_BYTES}
 use Rattle.compact_main.specs.declared.command.Command.TheVariants.{Verify}
 use Rattle.compact_main.specs.declared.drawing.Drawing.{Drawing}

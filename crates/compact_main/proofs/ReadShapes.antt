@@ -6,15 +6,15 @@ use Rattle.compact_types.specs.declared.plan.Plan.{Plan}
 use Rattle.compact_types.specs.declared.plan.Shape.{Shape}
 use Rattle.compact_types.specs.Connected.{IsConnected}
 use Rattle.compact_types.specs.Drawings.{IsDrawing}
-use Rattle.compact_types.proofs.SharedLemmas.{drawing_of_crossing_free}
+use Rattle.compact_types.proofs.Laws.{drawing_of_crossing_free}
 use Rattle.gml_text.specs.declared.tree.Tree.{Tree}
 use Rattle.drawing_read.specs.declared.reading.Reading.{Reading}
 use Rattle.drawing_read.specs.Readings.{IsReading, IsWithinLimits}
-use Rattle.drawing_read.proofs.SharedLemmas.{reading_within_limits}
+use Rattle.drawing_read.proofs.Laws.{reading_within_limits}
 use Rattle.drawing_check.specs.Shapes.{IsShapeOf}
 use Rattle.bars.specs.Segments.{segment_count}
 use Rattle.bars.specs.Solutions.{IsSound}
-use Rattle.bars.proofs.SharedLemmas.{few_segments}
+use Rattle.bars.proofs.Laws.{few_segments}
 use Rattle.compact_main.specs.declared.drawing.Drawing.{Drawing}
 use Rattle.compact_main.specs.Drawings.{shape_of}
 use Rattle.compact_main.specs.inner.FoundDrawings.{IsRead}

@@ -16,9 +16,9 @@ use Rattle.compact_types.specs.declared.plan.Shape.{Shape}
 use Rattle.compact_types.specs.declared.plan.Way.TheVariants.{East}
 use Rattle.compact_types.specs.Lookups.{origin, no_piece, along, EndsAreVertices}
 use Rattle.compact_types.specs.Magnitudes.{IsWithin, AreWithin}
-use Rattle.compact_types.proofs.SharedLemmas.{plan_of, shape_of, same_plan, same_places, drawing_of_crossing_free}
+use Rattle.compact_types.proofs.Laws.{plan_of, shape_of, same_plan, same_places, drawing_of_crossing_free}
 use Rattle.drawing_check.specs.Shapes.{IsShapeOf}
-use Rattle.drawing_check.proofs.SharedLemmas.{one_shape}
+use Rattle.drawing_check.proofs.Laws.{one_shape}
 use Rattle.bars.specs.Solutions.{IsSound}
 use Rattle.compact_main.specs.Samples.{sample_vertices, sample_place, sample_pieces, sample_piece, sample_way}
 use Rattle.compact_main.specs.declared.sample.TheConstants.{MOST_SAMPLE}

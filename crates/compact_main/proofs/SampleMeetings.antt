@@ -8,7 +8,7 @@ use Rattle.compact_types.specs.declared.plan.Way.{Way}
 use Rattle.compact_types.specs.Lookups.{IsEnd, HaveSameEnds}
 use Rattle.compact_types.specs.Segments.{OnSegment}
 use Rattle.compact_types.specs.Ways.{HasWay}
-use Rattle.compact_types.proofs.SharedLemmas.{same_point}
+use Rattle.compact_types.proofs.Laws.{same_point}
 use Rattle.compact_main.specs.Samples.{hooked, arm_node, sample_vertices, sample_piece, sample_way}
 use Rattle.compact_main.specs.Samples.{spine_place, arm_place, sample_place}
 use Rattle.compact_main.specs.Samples.{spine_piece, arm_piece, hook_piece}

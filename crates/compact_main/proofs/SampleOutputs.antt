@@ -19,7 +19,7 @@ use Rattle.compact_main.specs.declared.sample.TheConstants.{MOST_SAMPLE}
 use Rattle.compact_main.specs.Samples.{IsSample, sample_text, greatest_along, IsSampleOutput}
 use Rattle.compact_main.specs.inner.CertificateChecks.{CanCheckCertificate, CanMeasure}
 use Rattle.compact_main.proofs.BestDrawings.{best_within}
-use Rattle.cert_text.proofs.SharedLemmas.{made_best}
+use Rattle.cert_text.proofs.Laws.{made_best}
 use Rattle.compact_main.proofs.ShownBest.{shallow_enough}
 use Rattle.compact_main.proofs.SampleLaws.{sound_sample}
 

@@ -12,7 +12,7 @@ use Rattle.workers.specs.Searches.{HasEnded}
 use Rattle.cert_text.specs.declared.tree.CertNode.{CertNode}
 use Rattle.cert_text.specs.declared.trimming.TheConstants.{MOST_SPLITS}
 use Rattle.cert_text.specs.Trees.{IsShallow}
-use Rattle.cert_text.proofs.SharedLemmas.{made_best, shallower_from}
+use Rattle.cert_text.proofs.Laws.{made_best, shallower_from}
 use Rattle.compact_main.specs.declared.drawing.Drawing.{Drawing}
 use Rattle.compact_main.specs.declared.command.Form.TheVariants.{Certified}
 use Rattle.compact_main.specs.Drawings.{shape_of, HoldsDrawing, AreBestPlaces, IsAccepted}

@@ -4,20 +4,20 @@ use Rattle.std.proofs.Common.{ℕ, List, inl, inr, refl, subst, arith}
 use Rattle.compact_types.specs.declared.plan.Shape.{Shape as AnyShape}
 use Rattle.compact_types.specs.Refusals.{HasOneAnswer}
 use Rattle.compact_types.specs.Stages.{IsMadeOf, IsFaultOf}
-use Rattle.compact_types.proofs.SharedLemmas.{one_answer_alike, one_answer_in_two_stages}
+use Rattle.compact_types.proofs.Laws.{one_answer_alike, one_answer_in_two_stages}
 use Rattle.gml_text.specs.declared.tree.Tree.{Tree}
 use Rattle.gml_text.specs.Texts.{Spells}
 use Rattle.gml_text.specs.Faults as no_tree
-use Rattle.gml_text.proofs.SharedLemmas as texts
+use Rattle.gml_text.proofs.Laws as texts
 use Rattle.drawing_read.specs.declared.reading.Reading.{Reading}
 use Rattle.drawing_read.specs.Faults.{FirstDrawFault}
 use Rattle.drawing_read.specs.Readings.{IsReading, IsWithinLimits}
-use Rattle.drawing_read.proofs.SharedLemmas as readings
+use Rattle.drawing_read.proofs.Laws as readings
 use Rattle.drawing_check.specs.declared.fault.ShapeFault.{ShapeFault}
 use Rattle.drawing_check.specs.Conditions.{CanCheck}
 use Rattle.drawing_check.specs.Faults.{FirstShapeFault}
 use Rattle.drawing_check.specs.Shapes.{IsShapeOf}
-use Rattle.drawing_check.proofs.SharedLemmas as shapes
+use Rattle.drawing_check.proofs.Laws as shapes
 use Rattle.compact_main.specs.declared.drawing.Drawing.{Drawing}
 use Rattle.compact_main.specs.declared.status.Why.{Why}
 use Rattle.compact_main.specs.declared.status.Why.TheVariants.{TooLong, Gml, Draw, Shape}

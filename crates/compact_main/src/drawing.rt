@@ -46,7 +46,7 @@ pub(crate) fn input_of<R: Threads + Sync>(
 }
 
 /// The drawing that the text holds, or the first fault of a text that holds none.
-#[tactic(auto, using(drawing_read::proofs::SharedLemmas::readable_legible))]
+#[tactic(auto, using(drawing_read::proofs::Laws::readable_legible))]
 fn drawing_of<R: Threads + Sync>(
     rt: &R,
     alloc: Global,

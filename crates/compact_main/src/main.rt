@@ -11,7 +11,7 @@
 mod command;
 mod draw;
 mod drawing;
-mod laws;
+mod law;
 mod note;
 mod notify;
 mod options;
@@ -30,7 +30,7 @@ mod words;
 
 pub use command::{Command, Form, MOST_INPUT_BYTES};
 use io_ends::{StdSink, StdSource};
-pub use laws::{
+pub use law::{
     accepted_texts_have_an_output, certificates_show_the_best, counts_are_exact,
     outputs_are_functions_of_the_text, proved_drawings_are_best, texts_are_accepted_or_refused,
     texts_have_one_answer, what_draw_writes_is_proved, words_ask_for_one_command,

@@ -18,4 +18,4 @@ pub mod DivisionLemmas
 pub mod ScalingLemmas
 pub mod ScaledDrawings
 pub mod GridLemmas
-pub mod SharedLemmas
+pub mod Laws

@@ -3,7 +3,7 @@
 //!
 //! The layer above relies on the definitions in `specs/`: what a drawing is, how long it is, which
 //! drawing is best, and what a result with a refusal says; and on their laws, which are functions
-//! with an empty body, and as lemmas in `proofs/SharedLemmas.antt`.
+//! with an empty body, and as lemmas in `proofs/Laws.antt`.
 #![tactic(auto)]
 
 mod axes;

@@ -7,7 +7,7 @@ use Rattle.std.proofs.lemmas.List.{get_or-replicate, length-replicate}
 use Rattle.std.proofs.lemmas.List.Sums.{get_or-le-sum_by}
 use lib.IntN.{*ℤ-zero, zero-*ℤ}
 use Rattle.compact_types.specs.Sums.{sum_to}
-use Rattle.compact_types.proofs.SharedLemmas.{sum_to-same, sum_to-not_greater}
+use Rattle.compact_types.proofs.Laws.{sum_to-same, sum_to-not_greater}
 use Rattle.shape_graphs.specs.declared.graph.Arc.{Arc}
 use Rattle.shape_graphs.specs.declared.graph.TheConstants.{MOST_ARCS}
 use Rattle.shape_graphs.specs.Arcs.{arc_at, EndsAreNodes, AreArcsWithin}
@@ -20,7 +20,7 @@ use Rattle.diff_flow.specs.Improving.{IsBestByNumbers, IsRaised}
 use Rattle.diff_flow.specs.inner.Steps.{step_at, along_at, AreStepsOf, ArePaired, IsResidual, AreMet}
 use Rattle.diff_flow.specs.inner.Numbers.{height, AreLeastMet}
 use Rattle.diff_flow.specs.inner.Routing.{net_by, IsSpread, IsRouting, AreDropped, AreGiven, AreFirst}
-use Rattle.compact_types.proofs.SharedLemmas.{times-le_pos}
+use Rattle.compact_types.proofs.Laws.{times-le_pos}
 use Rattle.diff_flow.proofs.SignedLemmas.{times_suc}
 use Rattle.diff_flow.proofs.SetLemmas.{sum_most}
 use Rattle.diff_flow.proofs.TightLemmas.{nat, nat_is, tight_where_met}
@@ -203,7 +203,7 @@ bound_within arcs amounts within few flow =
     let less = times-le_pos (amount_at amounts i) (pos 0) (arc_at arcs i).least (omega (arith, ints, one)) in
     let none = *ℤ-zero (pos (amount_at amounts i)) in
     omega (arith, ints, less, none)) in
-    let nothing = Rattle.compact_types.proofs.SharedLemmas.sum_to-nothing (length arcs) in
+    let nothing = Rattle.compact_types.proofs.Laws.sum_to-nothing (length arcs) in
     let high = sum_to-not_greater (λ i. pos (amount_at amounts i) *ℤ (arc_at arcs i).least) (λ i. pos (2 ^ 60)) (length arcs)
     (λ i inside. let most = (within i inside).most_least in
     let less = times-le_pos (amount_at amounts i) (arc_at arcs i).least (pos 1000) most in

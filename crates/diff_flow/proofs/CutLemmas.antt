@@ -5,9 +5,9 @@ use Rattle.std.proofs.lemmas.Int.{ints}
 use Rattle.std.proofs.lemmas.Bool.{cases_lt}
 use lib.IntN.{*ℤ-zero, zero-*ℤ}
 use Rattle.compact_types.specs.Sums.{sum_to}
-use Rattle.compact_types.proofs.SharedLemmas.{sum_to-same, sum_to-scale, sum_to-exchange, sum_to-not_greater, sum_to-add}
+use Rattle.compact_types.proofs.Laws.{sum_to-same, sum_to-scale, sum_to-exchange, sum_to-not_greater, sum_to-add}
 use Rattle.shape_graphs.specs.Flows.{at_node}
-use Rattle.compact_types.proofs.SharedLemmas.{times-le_pos}
+use Rattle.compact_types.proofs.Laws.{times-le_pos}
 use Rattle.diff_flow.proofs.SignedLemmas.{times_suc, same_terms}
 use Rattle.diff_flow.proofs.Duality.{arc_share}
 

@@ -6,7 +6,7 @@ use Rattle.std.proofs.lemmas.Bool.{cases_lt}
 use Rattle.std.proofs.lemmas.Bool.Decides.{nat_tests}
 use lib.IntN.{*ℤ-zero, *ℤ_comm}
 use Rattle.compact_types.specs.Sums.{sum_to}
-use Rattle.compact_types.proofs.SharedLemmas.{sum_to-same, sum_to-scale, sum_to-exchange, sum_to-not_greater, times-sub, times-le_pos, same_factor}
+use Rattle.compact_types.proofs.Laws.{sum_to-same, sum_to-scale, sum_to-exchange, sum_to-not_greater, times-sub, times-le_pos, same_factor}
 use Rattle.shape_graphs.specs.declared.graph.Arc.{Arc}
 use Rattle.shape_graphs.specs.Arcs.{EndsAreNodes, arc_at}
 use Rattle.shape_graphs.specs.Flows.{at_node, amount_at, net, Balances, bound_of, IsBestFlow, over, IsSolution, IsTight, length_over}

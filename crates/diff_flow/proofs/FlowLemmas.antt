@@ -3,7 +3,7 @@ use Rattle.std.proofs.Common.{◌≡◌, ℕ, zero, suc, ◌<◌, ◌≤◌, ◌
 use Rattle.std.specs.Prelude.{◌-ℤ◌}
 use Rattle.std.proofs.lemmas.Int.{ints}
 use Rattle.compact_types.specs.Sums.{sum_to}
-use Rattle.compact_types.proofs.SharedLemmas.{sum_to-same}
+use Rattle.compact_types.proofs.Laws.{sum_to-same}
 use Rattle.shape_graphs.specs.declared.graph.Arc.{Arc}
 use Rattle.shape_graphs.specs.Arcs.{arc_at}
 use Rattle.shape_graphs.specs.Flows.{at_node, amount_at, net, Balances, BalancesAt}

@@ -10,7 +10,7 @@ use Rattle.shape_graphs.specs.declared.graph.DiffGraph.{DiffGraph}
 use Rattle.shape_graphs.specs.Arcs.{arc_at, no_arc, EndsAreNodes, AreArcsWithin, IsArcWithin}
 use Rattle.shape_graphs.specs.Flows.{amount_at, IsSolution, number_at}
 use Rattle.shape_graphs.specs.Paths.{HasCycle}
-use Rattle.shape_graphs.proofs.SharedLemmas.{cycle_decided, some_solution, no_cycle_in_solution}
+use Rattle.shape_graphs.proofs.Laws.{cycle_decided, some_solution, no_cycle_in_solution}
 use Rattle.diff_flow.specs.Tight.{AreLeastTight}
 use Rattle.diff_flow.specs.Walks.{AreLongestWalkLengths, AreWalkLengthsOf, AreLeastBefore, HasOneMoreArc}
 use Rattle.diff_flow.specs.declared.steps.ResidualArc.{ResidualArc}

@@ -3,13 +3,13 @@ use Rattle.std.proofs.Common.{◌≡◌, ℕ, ℤ, sym, ap, ◌∙◌, arith, Li
 use Rattle.std.specs.Prelude.{◌+ℤ◌, ◌*ℤ◌, ◌≤ℤ◌, ◌-ℤ◌}
 use Rattle.std.specs.Int.{int_min, int_max}
 use Rattle.std.proofs.lemmas.Int.{ints, clamps}
-use Rattle.compact_types.proofs.SharedLemmas.{sum_to-same, sum_to-add}
+use Rattle.compact_types.proofs.Laws.{sum_to-same, sum_to-add}
 use Rattle.shape_graphs.specs.declared.graph.Arc.{Arc}
 use Rattle.shape_graphs.specs.Arcs.{arc_at}
 use Rattle.shape_graphs.specs.Flows.{length_over}
 use Rattle.diff_flow.specs.Tight.{AreTight}
 use Rattle.diff_flow.specs.Shortest.{IsShortest, lesser}
-use Rattle.compact_types.proofs.SharedLemmas.{times-add}
+use Rattle.compact_types.proofs.Laws.{times-add}
 
 lesser_meets : (a b c d l : ℤ) → l ≤ℤ (b -ℤ a) → l ≤ℤ (d -ℤ c) → l ≤ℤ (int_min b d -ℤ int_min a c)
 lesser_meets a b c d l h k = omega (arith, ints, clamps)

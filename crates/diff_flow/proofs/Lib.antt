@@ -22,4 +22,4 @@ pub mod TightLemmas
 pub mod LengthenLemmas
 pub mod GrowLemmas
 pub mod GrownSteps
-pub mod SharedLemmas
+pub mod Laws

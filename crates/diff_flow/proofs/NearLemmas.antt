@@ -5,7 +5,7 @@ use Rattle.std.proofs.lemmas.Int.{ints}
 use Rattle.std.proofs.lemmas.Bool.{cases_lt}
 use lib.IntN.{*ℤ-zero}
 use Rattle.compact_types.specs.Sums.{sum_to}
-use Rattle.compact_types.proofs.SharedLemmas.{sum_to-same, sum_to-add, sum_to-not_greater}
+use Rattle.compact_types.proofs.Laws.{sum_to-same, sum_to-add, sum_to-not_greater}
 use Rattle.shape_graphs.specs.declared.graph.Arc.{Arc}
 use Rattle.shape_graphs.specs.declared.graph.TheConstants.{MOST_ARCS}
 use Rattle.shape_graphs.specs.Arcs.{arc_at, EndsAreNodes, AreArcsWithin}
@@ -15,7 +15,7 @@ use Rattle.diff_flow.specs.Amounts.{IsFlowOn}
 use Rattle.diff_flow.specs.inner.Steps.{along_at, AreStepsOf, AreMet}
 use Rattle.diff_flow.specs.inner.Numbers.{height}
 use Rattle.diff_flow.specs.inner.Routing.{IsSlack, IsDetour, IsNear, net_by}
-use Rattle.compact_types.proofs.SharedLemmas.{times-sub}
+use Rattle.compact_types.proofs.Laws.{times-sub}
 use Rattle.diff_flow.proofs.SignedLemmas.{times_suc, same_terms}
 use Rattle.diff_flow.proofs.Duality.{carried_length}
 use Rattle.diff_flow.proofs.TightLemmas.{tight_where_met}

@@ -4,7 +4,7 @@ use Rattle.std.specs.Prelude.{◌+ℤ◌, ◌-ℤ◌}
 use Rattle.std.proofs.lemmas.Int.{ints}
 use Rattle.std.proofs.lemmas.Bool.{cases_eq, cases_lt}
 use Rattle.std.proofs.lemmas.List.{get_or-set_same, get_or-set_other}
-use Rattle.compact_types.proofs.SharedLemmas.{sum_to-changed}
+use Rattle.compact_types.proofs.Laws.{sum_to-changed}
 use Rattle.shape_graphs.specs.Flows.{amount_at, at_node}
 use Rattle.diff_flow.specs.declared.steps.ResidualArc.{ResidualArc}
 use Rattle.diff_flow.specs.declared.tree.Reached.{Reached}

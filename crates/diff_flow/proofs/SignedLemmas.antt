@@ -5,7 +5,7 @@ use Rattle.std.proofs.lemmas.Int.{ints}
 use Rattle.std.proofs.lemmas.Bool.{cases_lt}
 use lib.IntN.{suc_ℤ-*ℤ}
 use Rattle.compact_types.specs.Sums.{sum_to}
-use Rattle.compact_types.proofs.SharedLemmas.{sum_to-not_greater}
+use Rattle.compact_types.proofs.Laws.{sum_to-not_greater}
 
 -- one time more
 pub times_suc : (n : ℕ) (a : ℤ) → pos (suc n) *ℤ a ≡ pos n *ℤ a +ℤ a

@@ -16,7 +16,7 @@ mod flow;
 mod growing;
 mod improving;
 mod labels;
-mod laws;
+mod law;
 mod leaving;
 mod lengthen;
 mod network;
@@ -33,7 +33,7 @@ mod walks;
 
 pub use flow::{balanced, bound, first_flow};
 pub use improving::{Improved, improve};
-pub use laws::{
+pub use law::{
     amounts_are_low, flows_bound_lengths, least_numbers_have_no_gaps,
     least_numbers_that_meet_an_arc, least_solutions_meet,
 };

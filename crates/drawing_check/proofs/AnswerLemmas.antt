@@ -15,7 +15,7 @@ use Rattle.compact_types.specs.Lookups.{place, piece_at, IsEnd, HaveSameEnds}
 use Rattle.compact_types.specs.Refusals.{HasOneAnswer}
 use Rattle.compact_types.specs.Segments.{IsBetween}
 use Rattle.compact_types.specs.Ways.{HasWay}
-use Rattle.compact_types.proofs.SharedLemmas.{some_way, same_point}
+use Rattle.compact_types.proofs.Laws.{some_way, same_point}
 use Rattle.drawing_check.specs.declared.covered.Covered.{Covered}
 use Rattle.drawing_check.specs.declared.fault.ShapeFault.{ShapeFault}
 use Rattle.drawing_check.specs.declared.fault.ShapeFault.TheVariants.{ZeroPiece, Slanted, Disconnected, Meeting}

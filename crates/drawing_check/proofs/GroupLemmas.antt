@@ -5,7 +5,7 @@ use Rattle.compact_types.specs.declared.plan.Plan.{Plan}
 use Rattle.compact_types.specs.Lookups.{piece_at}
 use Rattle.compact_types.specs.Connected.{IsJoined, IsConnected}
 use Rattle.compact_types.specs.Connected.AreJoined.{start, forward, backward}
-use Rattle.compact_types.proofs.SharedLemmas.{relabelled_is, relabelled_same, max_and_min}
+use Rattle.compact_types.proofs.Laws.{relabelled_is, relabelled_same, max_and_min}
 use Rattle.drawing_check.specs.Faults.{IsFirstApart}
 use Rattle.compact_types.specs.Groups.{GoDown, IsLabelling, merged}
 use Rattle.drawing_check.specs.inner.Groups.{BothJoined, AreLabels, AreGroups, IsSecondLeast}

@@ -5,4 +5,4 @@ pub mod WayLemmas
 pub mod GroupLemmas
 pub mod ShapeLemmas
 pub mod AnswerLemmas
-pub mod SharedLemmas
+pub mod Laws

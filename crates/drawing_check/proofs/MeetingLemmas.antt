@@ -16,7 +16,7 @@ use Rattle.drawing_check.specs.Points.{IsLeastPoint}
 use Rattle.drawing_check.specs.inner.CommonEnds.{IsOnlyCommonEnd}
 use Rattle.drawing_check.specs.declared.meeting.Meeting.{Meeting}
 use Rattle.compact_types.specs.Orders.{IsPairBefore}
-use Rattle.compact_types.proofs.SharedLemmas.{drawing_of_crossing_free}
+use Rattle.compact_types.proofs.Laws.{drawing_of_crossing_free}
 use Rattle.drawing_check.specs.Meetings.{Meets, IsFirstMeeting}
 use Rattle.drawing_check.specs.inner.Partners.{IsApart, ArePiecesApart, IsFirstPartner}
 use Rattle.drawing_check.specs.inner.Collisions.{IsOn, HasPointsOfExtent, IsAllowed, SharesAllowed, Collides}

@@ -12,7 +12,7 @@ use Rattle.compact_types.specs.Lookups.{way_at}
 use Rattle.compact_types.specs.Ways.{HasWay}
 use Rattle.compact_types.specs.Drawings.{begin_of, end_of, MeetOnlyAtEnds}
 use Rattle.compact_types.specs.Connected.{IsConnected}
-use Rattle.compact_types.proofs.SharedLemmas.{one_way, shape_of, same_shape, same_point}
+use Rattle.compact_types.proofs.Laws.{one_way, shape_of, same_shape, same_point}
 use Rattle.drawing_check.specs.declared.fault.ShapeFault.{ShapeFault}
 use Rattle.drawing_check.specs.declared.fault.ShapeFault.TheVariants.{ZeroPiece, Slanted, Disconnected, Meeting}
 use Rattle.drawing_check.specs.Courses.{HasNoLength, IsSlanted, AllHaveWays}

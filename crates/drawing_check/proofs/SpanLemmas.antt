@@ -4,7 +4,7 @@ use Rattle.std.proofs.lemmas.Int.{ints}
 use Rattle.std.proofs.lemmas.Bool.{and_parts}
 use Rattle.std.proofs.lemmas.Bool.Decides.{Decides-int_eq}
 use Rattle.compact_types.specs.declared.places.Point.{Point}
-use Rattle.compact_types.proofs.SharedLemmas.{same_point}
+use Rattle.compact_types.proofs.Laws.{same_point}
 use Rattle.drawing_check.specs.declared.span.PieceExtent.{PieceExtent}
 use Rattle.drawing_check.specs.inner.Spans.{IsInside, IsInsideBut}
 use Rattle.compact_types.specs.Orders.{IsPointBefore}

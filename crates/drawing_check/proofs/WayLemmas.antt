@@ -11,7 +11,7 @@ use Rattle.compact_types.specs.declared.plan.Way.TheVariants.{East, West, High, 
 use Rattle.compact_types.specs.Lookups.{way_at}
 use Rattle.compact_types.specs.Ways.{HasWay}
 use Rattle.compact_types.specs.Drawings.{begin_of, end_of}
-use Rattle.compact_types.proofs.SharedLemmas.{same_point}
+use Rattle.compact_types.proofs.Laws.{same_point}
 
 -- both coordinates of two points differ
 abbrev pub AreSlanted : Point → Point → Type 0

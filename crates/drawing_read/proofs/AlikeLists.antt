@@ -10,7 +10,7 @@ use Rattle.gml_text.specs.declared.tree.Pair.{Pair}
 use Rattle.gml_text.specs.declared.tree.Value.{Value}
 use Rattle.gml_text.specs.declared.tree.Value.TheVariants.{Whole, Real, Text, Inner}
 use Rattle.gml_text.specs.Thousandths.{thousandths_of}
-use Rattle.gml_text.proofs.SharedLemmas.{bare_value, bare_pair, without_offsets-pairs}
+use Rattle.gml_text.proofs.Laws.{bare_value, bare_pair, without_offsets-pairs}
 use Rattle.drawing_read.specs.declared.numerals.Number.{Number}
 use Rattle.drawing_read.specs.declared.numerals.Numbers.{Numbers}
 use Rattle.drawing_read.specs.declared.numerals.WholeNumber.{WholeNumber}

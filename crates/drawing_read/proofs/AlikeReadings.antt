@@ -6,7 +6,7 @@ use Rattle.std.specs.Option.{option_map, option_map_or}
 use Rattle.gml_text.specs.Alike.{IsAlike}
 use Rattle.gml_text.specs.declared.tree.Tree.{Tree, out-Tree}
 use Rattle.gml_text.specs.declared.tree.Pair.{Pair}
-use Rattle.gml_text.proofs.SharedLemmas.{bare_value, bare_pair, pairs-IsAlike}
+use Rattle.gml_text.proofs.Laws.{bare_value, bare_pair, pairs-IsAlike}
 use Rattle.drawing_read.specs.declared.reading.Reading.{Reading}
 use Rattle.drawing_read.specs.declared.reading.Spot.{Spot}
 use Rattle.drawing_read.specs.declared.spans.EdgeSpan.{EdgeSpan}

@@ -9,7 +9,7 @@ use Rattle.gml_text.specs.Bytes.{is_key}
 use Rattle.gml_text.specs.Numerals.{is_whole_numeral}
 use Rattle.gml_text.specs.NumeralKinds.{is_numeral}
 use Rattle.gml_text.specs.PairCounts.{count_in_value, count_in_pair, count_in_pairs, pair_count}
-use Rattle.gml_text.proofs.SharedLemmas.{tree_count, pair_with_value, value_count, is_numeral-whole}
+use Rattle.gml_text.proofs.Laws.{tree_count, pair_with_value, value_count, is_numeral-whole}
 use Rattle.drawing_read.specs.Legible.{value_has_legible_words, pair_has_legible_words, have_legible_words, IsLegible}
 use Rattle.drawing_read.specs.inner.Legible.{most_pairs, IsLegiblePair, AreLegible}
 use Rattle.drawing_read.proofs.LegibleWords.{tree_legible, pair_legible, value_legible}

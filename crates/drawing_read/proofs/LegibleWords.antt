@@ -10,7 +10,7 @@ use Rattle.gml_text.specs.Grammar.{IsReadable}
 use Rattle.gml_text.specs.Numerals.{is_whole_numeral}
 use Rattle.gml_text.specs.NumeralKinds.{is_numeral}
 use Rattle.gml_text.specs.RightWords.{pair_words_step, list_words_step, value_has_right_words, pair_has_right_words, have_right_words, has_right_words}
-use Rattle.gml_text.proofs.SharedLemmas.{list_all-map, tree_words, pair_words, value_words, EachValue, each_in, is_numeral-real}
+use Rattle.gml_text.proofs.Laws.{list_all-map, tree_words, pair_words, value_words, EachValue, each_in, is_numeral-real}
 use Rattle.drawing_read.specs.Legible.{value_legible_step, value_has_legible_words, pair_has_legible_words, have_legible_words, has_legible_words, IsLegible}
 
 -- the words of a tree are those of its pairs

@@ -23,4 +23,4 @@ pub mod PathOrder
 pub mod InsideOrder
 pub mod SpotOrder
 pub mod SpotVertices
-pub mod SharedLemmas
+pub mod Laws

@@ -6,7 +6,7 @@ use Rattle.std.proofs.lemmas.Option.{same_Some}
 use Rattle.compact_types.specs.Refusals.{HasOneAnswer, IfFault}
 use Rattle.compact_types.specs.declared.refusal.Refusal.{Refusal}
 use Rattle.compact_types.specs.declared.refusal.Refusal.TheVariants.{Fault, NoMemory}
-use Rattle.compact_types.proofs.SharedLemmas.{plan_of, same_plan}
+use Rattle.compact_types.proofs.Laws.{plan_of, same_plan}
 use Rattle.gml_text.specs.declared.tree.Tree.{Tree, out-Tree}
 use Rattle.gml_text.specs.declared.tree.Pair.{Pair}
 use Rattle.drawing_read.specs.declared.fault.DrawFault.{DrawFault}

@@ -12,7 +12,7 @@ use Rattle.drawing_read.specs.declared.written.Edge.{Edge}
 use Rattle.drawing_read.specs.Lookups.{has_key, list_in, first_under, first_list}
 use Rattle.drawing_read.specs.Written.{node_in, edge_of, edge_in, point_in, line_pairs, graph_of}
 use Rattle.gml_text.specs.PairCounts.{count_in_value, count_in_pair}
-use Rattle.gml_text.proofs.SharedLemmas.{pair_with_value, tree_count, value_count}
+use Rattle.gml_text.proofs.Laws.{pair_with_value, tree_count, value_count}
 use Rattle.drawing_read.specs.inner.Legible.{AreLegible}
 use Rattle.drawing_read.specs.inner.Passes.{point_count, CanBeCounted}
 

@@ -11,7 +11,7 @@ mod fault;
 mod faults;
 mod graph;
 mod ids;
-mod laws;
+mod law;
 mod layout;
 mod limits;
 mod lookups;
@@ -24,7 +24,7 @@ mod spots;
 mod written;
 
 pub use fault::DrawFault;
-pub use laws::{
+pub use law::{
     alike_trees_have_one_reading, readable_trees_are_legible, readings_are_within_limits,
     spots_are_the_coordinates, trees_have_one_answer,
 };

@@ -6,7 +6,7 @@ use Rattle.gml_text.specs.declared.tree.Pair.{Pair}
 use Rattle.gml_text.specs.declared.tree.Value.{Value}
 use Rattle.gml_text.specs.declared.tree.Value.TheVariants.{Inner}
 use Rattle.gml_text.specs.Alike.{without_offsets, IsAlike}
-use Rattle.gml_text.proofs.SharedLemmas.{bare_value, bare_pair, without_offsets-pairs, EachValue, each_in}
+use Rattle.gml_text.proofs.Laws.{bare_value, bare_pair, without_offsets-pairs, EachValue, each_in}
 use Rattle.gml_print.specs.Printing.{printed, printed_at, line, bracketed}
 use Rattle.gml_print.specs.inner.Pieces.{value_text, pair_text}
 use Rattle.gml_print.proofs.TextEquations.{printed_at_lines, printed_at_pairs}

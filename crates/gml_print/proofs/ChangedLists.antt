@@ -10,7 +10,7 @@ use Rattle.gml_text.specs.declared.tree.Pair.{Pair}
 use Rattle.gml_text.specs.declared.tree.Value.{Value}
 use Rattle.drawing_read.specs.Lookups.{has_key, first_under, place_under}
 use Rattle.gml_print.specs.Placing.{with_changed_value, set_changed, change_at}
-use Rattle.drawing_read.proofs.SharedLemmas.{position-map}
+use Rattle.drawing_read.proofs.Laws.{position-map}
 
 -- the value of the pair at a place changed
 abbrev pub changed_at : ℕ → (Value → Value) → List Pair → List Pair

@@ -20,4 +20,4 @@ pub mod PlacedReadings
 pub mod PathLemmas
 pub mod SpotValues
 pub mod SpotParts
-pub mod SharedLemmas
+pub mod Laws

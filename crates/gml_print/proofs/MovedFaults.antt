@@ -15,7 +15,7 @@ use Rattle.drawing_read.specs.declared.spans.EdgeSpan.{EdgeSpan}
 use Rattle.drawing_read.specs.Ids.{ids_of, node_with}
 use Rattle.drawing_read.specs.Spans.{point_vertex}
 use Rattle.drawing_read.specs.Faults.{is_no_numeral, lacks_end, has_unknown_end, bad_point_from, both_numbers, refused_in}
-use Rattle.drawing_read.proofs.SharedLemmas.{none_mapped, position-map}
+use Rattle.drawing_read.proofs.Laws.{none_mapped, position-map}
 use Rattle.gml_print.proofs.ListFacts.{position_none_tail, position_none_cons, neither, both_none}
 use Rattle.gml_print.proofs.MovedGraphs.{HavePlaces, HavePoints, EdgesHavePoints, moved_numbers, moved_node, moved_nodes, moved_points, moved_edges}
 

@@ -16,7 +16,7 @@ use Rattle.drawing_read.specs.declared.written.Node.{Node}
 use Rattle.drawing_read.specs.declared.written.Edge.{Edge}
 use Rattle.drawing_read.specs.declared.spans.EdgeSpan.{EdgeSpan}
 use Rattle.drawing_read.specs.Routes.{Route, point_of, node_points}
-use Rattle.compact_types.proofs.SharedLemmas.{range_push, same_point as same_coordinates}
+use Rattle.compact_types.proofs.Laws.{range_push, same_point as same_coordinates}
 use Rattle.drawing_read.specs.Spans.{same_point, begins_at, ends_at, after_first_at, before_last_at, bends_of, chain}
 use Rattle.drawing_read.specs.Spans.{point_vertex}
 

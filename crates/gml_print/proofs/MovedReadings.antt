@@ -16,7 +16,7 @@ use Rattle.drawing_read.specs.Spans.{bends_of, spans_from, points_by, spans_by, 
 use Rattle.drawing_read.specs.Spans.{no_span}
 use Rattle.drawing_read.specs.Ids.{first_repeated}
 use Rattle.drawing_read.specs.Faults.{is_absent, is_unfit, graph_fault, numbers_in_graph, first_refused, refused_in, has_unknown_end}
-use Rattle.drawing_read.proofs.SharedLemmas.{HasNoFault, end_below, has_no_fault, is_faultless}
+use Rattle.drawing_read.proofs.Laws.{HasNoFault, end_below, has_no_fault, is_faultless}
 use Rattle.gml_print.proofs.ListFacts.{range_append, length_range}
 use Rattle.gml_print.proofs.MovedGraphs.{HavePlaces, EdgesHavePoints, Apart, moved_nodes, moved_edges, moved_node_points}
 use Rattle.gml_print.proofs.MovedFaults.{have_places, edges_have_points, ids_moved, ids_position, length_moved, places_moved, numbers_fit, lacking_moved, unknown_moved, no_bad_point}

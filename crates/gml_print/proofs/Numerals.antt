@@ -8,7 +8,7 @@ use Rattle.std.proofs.lemmas.Int.{ints}
 use Rattle.std.proofs.lemmas.Fmt.{decimal_by_steps}
 use Rattle.std.proofs.lemmas.List.Folds.{list_all-append}
 use Rattle.std.proofs.lemmas.Bool.Decides.{nat_tests}
-use Rattle.gml_text.proofs.SharedLemmas.{all-are_digits}
+use Rattle.gml_text.proofs.Laws.{all-are_digits}
 use Rattle.gml_text.specs.Bytes.{is_digit}
 use Rattle.gml_text.specs.Numerals.{is_sign, is_whole_numeral, digits_value_from, digits_value, value_of_whole}
 use Rattle.gml_print.specs.Numbers.{number_text}

@@ -15,7 +15,7 @@ use Rattle.drawing_read.specs.declared.reading.Spot.{Spot}
 use Rattle.gml_text.specs.declared.number.NumberFault.TheVariants.{OutOfRange}
 use Rattle.gml_text.specs.Numerals.{no_sign, Numeral, IsNumeral, digits_value, mantissa, power_of_ten}
 use Rattle.gml_text.specs.NumeralKinds.{parts_of}
-use Rattle.gml_text.proofs.SharedLemmas.{parts_of-is}
+use Rattle.gml_text.proofs.Laws.{parts_of-is}
 use Rattle.gml_text.specs.Thousandths.{times_ten, within_range, thousandths_of}
 use Rattle.gml_print.specs.Numbers.{number_text}
 use Rattle.compact_types.specs.declared.limits.TheConstants.{GREATEST_COORDINATE, GREATEST_PLACE, GREATEST_THOUSANDTHS, MOST_PITCH}

@@ -14,7 +14,7 @@ use Rattle.gml_text.specs.RightWords.{value_has_right_words, pair_has_right_word
 use Rattle.gml_text.specs.Depths.{depth_of_value, depth_of_pairs, depth_of}
 use Rattle.gml_text.specs.PairCounts.{count_in_value, count_in_pair, count_in_pairs, pair_count}
 use Rattle.gml_text.specs.Grammar.{IsWithinGrammar, IsReadable}
-use Rattle.gml_text.proofs.SharedLemmas.{tree_words, rolled_words, pair_words, value_words, tree_depth, rolled_depth, pair_depth, value_depth, tree_count, rolled_count, pair_with_value, value_count}
+use Rattle.gml_text.proofs.Laws.{tree_words, rolled_words, pair_words, value_words, tree_depth, rolled_depth, pair_depth, value_depth, tree_count, rolled_count, pair_with_value, value_count}
 use Rattle.drawing_read.specs.declared.reading.Spot.{Spot}
 use Rattle.compact_types.specs.declared.limits.TheConstants.{GREATEST_PLACE, MOST_PITCH}
 use Rattle.gml_print.specs.Numbers.{number_text}

@@ -17,8 +17,8 @@ use Rattle.gml_text.specs.RightWords.{value_has_right_words, pair_has_right_word
 use Rattle.gml_text.specs.Depths.{depth_of_value, depth_of_pairs}
 use Rattle.gml_text.specs.Grammar.{IsWithinGrammar}
 use Rattle.gml_text.specs.Alike.{IsAlike}
-use Rattle.gml_text.proofs.SharedLemmas.{bare_value, bare_pair, IsAlike-pairs, within_alike, is_space-no_word, real-kind_of, one_answer, spelled_within, ends_in_word-append}
-use Rattle.gml_text.proofs.SharedLemmas.{tree_words, pair_words, value_words, tree_depth, pair_depth, value_depth}
+use Rattle.gml_text.proofs.Laws.{bare_value, bare_pair, IsAlike-pairs, within_alike, is_space-no_word, real-kind_of, one_answer, spelled_within, ends_in_word-append}
+use Rattle.gml_text.proofs.Laws.{tree_words, pair_words, value_words, tree_depth, pair_depth, value_depth}
 use Rattle.gml_text.specs.declared.marks.TheConstants.{SPACE, LINE_FEED, OPENING_BRACKET, CLOSING_BRACKET}
 use Rattle.gml_print.specs.Printing.{indentation, bracketed, line, printed, printed_at}
 use Rattle.gml_print.specs.inner.Pieces.{value_text, pair_text}

@@ -7,13 +7,13 @@
 #![tactic(auto)]
 
 mod copy;
-mod laws;
+mod law;
 mod number;
 mod place;
 mod places;
 mod print;
 
-pub use laws::{
+pub use law::{
     only_spots_change, placed_text_is_read, placed_tree_is_read, placed_tree_is_within_grammar,
     printed_text_has_the_tree, text_has_its_number,
 };

@@ -7,7 +7,7 @@ pub mod FirstFaults
 pub mod LongestFronts
 pub mod ValueInduction
 pub mod Keys
-pub mod SharedLemmas
+pub mod Laws
 pub mod TreeLevels
 pub mod NumeralLaws
 pub mod NumeralParts

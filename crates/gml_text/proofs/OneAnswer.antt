@@ -3,7 +3,7 @@ use Rattle.std.proofs.Common.{ℕ, ◌≤◌, ◌⊎◌, inl, inr, List, length,
 use Rattle.compact_types.specs.Refusals.{Gives, IfFault, Decides, HasOneAnswer}
 use Rattle.compact_types.specs.declared.refusal.Refusal.{Refusal}
 use Rattle.compact_types.specs.declared.refusal.Refusal.TheVariants.{Fault, NoMemory}
-use Rattle.compact_types.proofs.SharedLemmas.{decides_by_one_answer}
+use Rattle.compact_types.proofs.Laws.{decides_by_one_answer}
 use Rattle.gml_text.specs.declared.limits.TheConstants.{MOST_BYTES}
 use Rattle.gml_text.specs.declared.fault.GmlFault.{GmlFault}
 use Rattle.gml_text.specs.declared.tree.Tree.{Tree}

@@ -8,7 +8,7 @@
 //! both words between any two steps, and `Views` what a seat knows and how each step changes it.
 #![tactic(auto)]
 
-mod laws;
+mod law;
 mod rule;
 #[cfg(test)]
 mod tests;
@@ -16,6 +16,6 @@ mod view;
 mod word;
 mod words;
 
-pub use laws::{knowledge_is_kept, what_steps_find};
+pub use law::{knowledge_is_kept, what_steps_find};
 pub use word::{LeastWord, WordSeat};
 pub use words::GREATEST_WORTH;

@@ -5,7 +5,7 @@ use Rattle.std.specs.List.{filter_map, cons_option, range_with_len}
 use Rattle.std.proofs.lemmas.Int.{ints}
 use Rattle.std.proofs.lemmas.List.{get_or_append_left, get_or-append-add}
 use Rattle.compact_types.specs.Sums.{sum_to}
-use Rattle.compact_types.proofs.SharedLemmas.{sum_to-split, sum_to-same}
+use Rattle.compact_types.proofs.Laws.{sum_to-split, sum_to-same}
 use Rattle.shape_graphs.specs.declared.graph.Arc.{Arc}
 use Rattle.shape_graphs.specs.Arcs.{arc_at, no_arc}
 

@@ -9,12 +9,12 @@ use Rattle.shape_graphs.specs.declared.graph.Arc.{Arc}
 use Rattle.shape_graphs.specs.Arcs.{arc_at, AreGraph, AreArcsWithin, IsArcWithin}
 use Rattle.shape_graphs.specs.Flows.{amount_at, Balances, bound_of, IsFlowOn, length_over, over}
 use Rattle.shape_graphs.specs.Paths.{HasCycle}
-use Rattle.shape_graphs.proofs.SharedLemmas.{some_solution}
+use Rattle.shape_graphs.proofs.Laws.{some_solution}
 use Rattle.diff_flow.specs.Tight.{AreTight}
-use Rattle.diff_flow.proofs.SharedLemmas.{bound_below}
-use Rattle.diff_flow.proofs.SharedLemmas.{closed, closed_most}
-use Rattle.compact_types.proofs.SharedLemmas.{times-le_pos}
-use Rattle.diff_flow.proofs.SharedLemmas.{nat, nat_is, tight_without_gaps}
+use Rattle.diff_flow.proofs.Laws.{bound_below}
+use Rattle.diff_flow.proofs.Laws.{closed, closed_most}
+use Rattle.compact_types.proofs.Laws.{times-le_pos}
+use Rattle.diff_flow.proofs.Laws.{nat, nat_is, tight_without_gaps}
 
 -- a product of a small and a bounded number
 pub product_most : (x m d : ℕ) (z : ℤ) → x ≤ m → z ≤ℤ pos d → (pos x *ℤ z) ≤ℤ pos (m * d)

@@ -14,21 +14,21 @@ use Rattle.compact_types.specs.Bests.Objective.{total_length}
 use Rattle.compact_types.specs.Drawings.{IsFromZero}
 use Rattle.compact_types.specs.Magnitudes.{IsNowhereNegative}
 use Rattle.compact_types.specs.Lookups.{other_axis}
-use Rattle.compact_types.proofs.SharedLemmas.{sum_to-same, sum_to-not_greater, sum_to-nothing, times-le_pos}
+use Rattle.compact_types.proofs.Laws.{sum_to-same, sum_to-not_greater, sum_to-nothing, times-le_pos}
 use Rattle.bars.specs.Segments.{node_of, node_count}
 use Rattle.bars.specs.Solutions.{IsSound, Fit, Solves}
-use Rattle.bars.proofs.SharedLemmas.{line_below}
+use Rattle.bars.proofs.Laws.{line_below}
 use Rattle.shape_graphs.specs.declared.graph.Arc.{Arc}
 use Rattle.shape_graphs.specs.Arcs.{arc_at, AreGraph}
 use Rattle.shape_graphs.specs.Flows.{IsSolution, length_over, over}
 use Rattle.shape_graphs.specs.Graphs.{arcs_of}
 use Rattle.shape_graphs.specs.Measures.{HaveNoCycle, IsLeastKey, AreNowhereAbove}
 use Rattle.shape_graphs.specs.Paths.{HasCycle}
-use Rattle.shape_graphs.proofs.SharedLemmas.{places_by, places_by_fit, along_places_by}
+use Rattle.shape_graphs.proofs.Laws.{places_by, places_by_fit, along_places_by}
 use Rattle.diff_flow.specs.Shortest.{IsShortest, lesser}
-use Rattle.diff_flow.proofs.SharedLemmas.{closed, closed_most, closed_slow}
-use Rattle.diff_flow.proofs.SharedLemmas.{shortest_meet}
-use Rattle.diff_flow.proofs.SharedLemmas.{nat, nat_is, tight_without_gaps}
+use Rattle.diff_flow.proofs.Laws.{closed, closed_most, closed_slow}
+use Rattle.diff_flow.proofs.Laws.{shortest_meet}
+use Rattle.diff_flow.proofs.Laws.{nat, nat_is, tight_without_gaps}
 use Rattle.potentials.specs.Standing.{StandAt}
 use Rattle.potentials.proofs.FlowBounds.{low_numbers, low_numbers_tight}
 use Rattle.potentials.proofs.LengthLemmas.{length_is}

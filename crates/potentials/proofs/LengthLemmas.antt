@@ -16,11 +16,11 @@ use Rattle.compact_types.specs.Axes.{low_end, high_end, length_along}
 use Rattle.compact_types.specs.Drawings.{begin_of, end_of}
 use Rattle.compact_types.specs.Lengths.{gap, length_of}
 use Rattle.compact_types.specs.Lookups.{piece_at, way_at, axis_of, other_axis}
-use Rattle.compact_types.proofs.SharedLemmas.{sum_to-add, sum_to-same}
+use Rattle.compact_types.proofs.Laws.{sum_to-add, sum_to-same}
 use Rattle.bars.specs.Lines.{is_axis, is_along}
 use Rattle.bars.specs.Sides.{side_axis}
 use Rattle.bars.specs.Solutions.{Solves}
-use Rattle.bars.proofs.SharedLemmas.{GoesAlong, low_of, high_of, coordinate, straight, rises, low_is_vertex, high_is_vertex, is_axis_same, is_axis_other, axis_or_other}
+use Rattle.bars.proofs.Laws.{GoesAlong, low_of, high_of, coordinate, straight, rises, low_is_vertex, high_is_vertex, is_axis_same, is_axis_other, axis_or_other}
 use Rattle.shape_graphs.specs.declared.graph.Arc.{Arc}
 use Rattle.shape_graphs.specs.Flows.{length_over}
 use Rattle.shape_graphs.specs.Graphs.{arcs_of, piece_arc, piece_arcs, piece_arc_along, choice_arcs, choice_arc_along, side_arc}

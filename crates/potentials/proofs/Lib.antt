@@ -12,4 +12,4 @@ pub mod StartLemmas
 pub mod SolverLemmas
 pub mod VerdictLemmas
 pub mod WorkspaceLemmas
-pub mod SharedLemmas
+pub mod Laws

@@ -13,16 +13,16 @@ use Rattle.compact_types.specs.Bests.Objective.{total_length}
 use Rattle.compact_types.specs.Lookups.{other_axis}
 use Rattle.bars.specs.Segments.{node_of, node_count}
 use Rattle.bars.specs.Solutions.{IsSound, Fit, Solves}
-use Rattle.bars.proofs.SharedLemmas.{coordinate, line_below, few_lines}
+use Rattle.bars.proofs.Laws.{coordinate, line_below, few_lines}
 use Rattle.shape_graphs.specs.declared.graph.Arc.{Arc}
 use Rattle.shape_graphs.specs.Arcs.{arc_at, AreGraph}
 use Rattle.shape_graphs.specs.Graphs.{arcs_of}
 use Rattle.shape_graphs.specs.Measures.{HaveNoCycle, IsLeastKey}
-use Rattle.shape_graphs.proofs.SharedLemmas.{comes_from, no_cycle_in_solution, one_least, places_by, solid_from}
+use Rattle.shape_graphs.proofs.Laws.{comes_from, no_cycle_in_solution, one_least, places_by, solid_from}
 use Rattle.diff_flow.specs.Shortest.{IsShortest}
 use Rattle.diff_flow.specs.Tight.{AreTight}
-use Rattle.diff_flow.proofs.SharedLemmas.{closed, closed_most, closed_slow, all_covered}
-use Rattle.diff_flow.proofs.SharedLemmas.{nat, nat_is, tight_without_gaps}
+use Rattle.diff_flow.proofs.Laws.{closed, closed_most, closed_slow, all_covered}
+use Rattle.diff_flow.proofs.Laws.{nat, nat_is, tight_without_gaps}
 use Rattle.potentials.specs.Standing.{StandAt}
 use Rattle.potentials.proofs.LeastKeys.{AreLowest, lowest_numbers, shorter, places_by_stand, places_by_least}
 use Rattle.potentials.proofs.NodePlaces.{node_taken, own_numbers, solution_from, stand_at_own, stands}

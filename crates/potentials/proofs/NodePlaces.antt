@@ -11,11 +11,11 @@ use Rattle.compact_types.specs.Drawings.{HasWays}
 use Rattle.compact_types.specs.Lookups.{other_axis}
 use Rattle.bars.specs.Segments.{node_of, node_count}
 use Rattle.bars.specs.Solutions.{HasDrawing, Fit, Solves}
-use Rattle.bars.proofs.SharedLemmas.{coordinate, level_node, line_below, line_taken}
+use Rattle.bars.proofs.Laws.{coordinate, level_node, line_below, line_taken}
 use Rattle.shape_graphs.specs.Arcs.{arc_at}
 use Rattle.shape_graphs.specs.Flows.{IsSolution, IsTight}
 use Rattle.shape_graphs.specs.Graphs.{arcs_of}
-use Rattle.shape_graphs.proofs.SharedLemmas.{comes_from, meets_arcs, solves_from_graphs, IsTaken, solid_from}
+use Rattle.shape_graphs.proofs.Laws.{comes_from, meets_arcs, solves_from_graphs, IsTaken, solid_from}
 use Rattle.potentials.specs.Standing.{StandAt}
 use Rattle.potentials.specs.TightPlaces.{IsTightAlong}
 

@@ -11,12 +11,12 @@ use Rattle.compact_types.specs.Drawings.{begin_of, end_of}
 use Rattle.compact_types.specs.Lengths.{distance, plain_length_of}
 use Rattle.compact_types.specs.Lookups.{axis_of, way_at}
 use Rattle.compact_types.specs.Sums.{sum_to}
-use Rattle.compact_types.proofs.SharedLemmas.{sum_to-add, sum_to-same}
+use Rattle.compact_types.proofs.Laws.{sum_to-add, sum_to-same}
 use Rattle.bars.specs.Lines.{is_axis}
 use Rattle.bars.specs.Solutions.{HasDrawing}
 use Rattle.shape_graphs.specs.declared.graph.Arc.{Arc}
 use Rattle.shape_graphs.specs.Graphs.{piece_arc, piece_arcs, piece_arc_along}
-use Rattle.shape_graphs.proofs.SharedLemmas.{few_piece_arcs}
+use Rattle.shape_graphs.proofs.Laws.{few_piece_arcs}
 use Rattle.potentials.proofs.FlowBounds.{sum_from_zero}
 use Rattle.potentials.proofs.ArcSums.{share, total-range}
 

@@ -14,10 +14,10 @@ use Rattle.compact_types.specs.declared.search.Flows.{Flows}
 use Rattle.compact_types.specs.Bests.{key_of, worth_of}
 use Rattle.compact_types.specs.Bests.Objective.{total_length}
 use Rattle.compact_types.specs.Lookups.{other_axis}
-use Rattle.compact_types.proofs.SharedLemmas.{same_key}
+use Rattle.compact_types.proofs.Laws.{same_key}
 use Rattle.bars.specs.Segments.{node_count}
 use Rattle.bars.specs.Solutions.{Fit, IsSound}
-use Rattle.bars.proofs.SharedLemmas.{few_lines}
+use Rattle.bars.proofs.Laws.{few_lines}
 use Rattle.shape_graphs.specs.declared.graph.Arc.{Arc}
 use Rattle.shape_graphs.specs.declared.graph.DiffGraph.{DiffGraph}
 use Rattle.shape_graphs.specs.declared.measure.Verdict.{Verdict}

@@ -13,7 +13,7 @@ use Rattle.compact_types.specs.declared.search.Choice.{Choice}
 use Rattle.compact_types.specs.declared.search.Flow.{Flow}
 use Rattle.compact_types.specs.declared.search.Flows.{Flows}
 use Rattle.compact_types.specs.Sums.{sum_to}
-use Rattle.compact_types.proofs.SharedLemmas.{sum_to-same}
+use Rattle.compact_types.proofs.Laws.{sum_to-same}
 use Rattle.bars.specs.Lines.{is_axis}
 use Rattle.bars.specs.Sides.{side_axis}
 use Rattle.shape_graphs.specs.declared.graph.Arc.{Arc}

@@ -13,19 +13,19 @@ use Rattle.compact_types.specs.Bests.Objective.{total_length}
 use Rattle.compact_types.specs.Drawings.{IsFromZero}
 use Rattle.compact_types.specs.Lookups.{along, other_axis}
 use Rattle.compact_types.specs.Moves.{moved}
-use Rattle.compact_types.proofs.SharedLemmas.{some_from_zero, length-moved, place-moved}
+use Rattle.compact_types.proofs.Laws.{some_from_zero, length-moved, place-moved}
 use Rattle.bars.specs.Segments.{node_of, node_count}
 use Rattle.bars.specs.Solutions.{IsSound, Fit, Solves}
-use Rattle.bars.proofs.SharedLemmas.{coordinate, line_below}
+use Rattle.bars.proofs.Laws.{coordinate, line_below}
 use Rattle.shape_graphs.specs.Arcs.{arc_at, AreGraph}
 use Rattle.shape_graphs.specs.Backings.{flow_of, AreBalanced, bound_by}
 use Rattle.shape_graphs.specs.Flows.{bound_of, IsSolution, length_over}
 use Rattle.shape_graphs.specs.Graphs.{arcs_of}
 use Rattle.shape_graphs.specs.Measures.{IsLeastKey}
-use Rattle.shape_graphs.proofs.SharedLemmas.{are_graph, solid_from, comes_from}
+use Rattle.shape_graphs.proofs.Laws.{are_graph, solid_from, comes_from}
 use Rattle.diff_flow.specs.Tight.{AreTight, AreLeastTight}
-use Rattle.diff_flow.proofs.SharedLemmas.{bound_below, tight_where_equal, equal_where_tight}
-use Rattle.diff_flow.proofs.SharedLemmas.{least_taken}
+use Rattle.diff_flow.proofs.Laws.{bound_below, tight_where_equal, equal_where_tight}
+use Rattle.diff_flow.proofs.Laws.{least_taken}
 use Rattle.potentials.specs.Standing.{StandAt}
 use Rattle.potentials.specs.TightPlaces.{AreTightPlaces, AreLeastTightPlaces}
 use Rattle.potentials.proofs.LengthLemmas.{length_is}

@@ -16,7 +16,7 @@ use Rattle.shape_graphs.specs.Graphs.{arcs_of, choice_arcs, IsGraphOf, piece_arc
 use Rattle.shape_graphs.specs.Growing.{AreGrown, graph_on}
 use Rattle.shape_graphs.specs.Measures.{IsFirstCyclic}
 use Rattle.shape_graphs.specs.Paths.{HasCycle, IsCycle}
-use Rattle.shape_graphs.proofs.SharedLemmas.{arc_along, no_arc_across, no_cycle_where_solved}
+use Rattle.shape_graphs.proofs.Laws.{arc_along, no_arc_across, no_cycle_where_solved}
 use Rattle.diff_flow.specs.Walks.{HasOneMoreArc}
 use Rattle.potentials.specs.declared.reached.Level.{Level}
 use Rattle.potentials.specs.declared.solver.AxisSolver.{AxisSolver}

@@ -7,7 +7,7 @@
 
 mod begin;
 mod keys;
-mod laws;
+mod law;
 mod reached;
 mod solver;
 mod standing;
@@ -16,7 +16,7 @@ mod verdicts;
 mod workspace;
 
 pub use keys::{FlowKey, flow_key};
-pub use laws::{flows_bound_worths, least_key_exists, least_keys_are_low, lengths_by_graphs};
+pub use law::{flows_bound_worths, least_key_exists, least_keys_are_low, lengths_by_graphs};
 pub use standing::point_of;
 pub use total_length::TotalLength;
 pub use workspace::FlowWorkspace;

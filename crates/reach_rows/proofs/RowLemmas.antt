@@ -9,7 +9,7 @@ use Rattle.shape_graphs.specs.Arcs.{arc_at, EndsAreNodes}
 use Rattle.shape_graphs.specs.Orders.{IsArcOrder}
 use Rattle.shape_graphs.specs.Paths.{HasPath, IsAtOrReached, HaveArcsIn, step_arc}
 use Rattle.shape_graphs.specs.Paths.HasPath.{along_arc, arc_and_path}
-use Rattle.shape_graphs.proofs.SharedLemmas.{joined_paths, same_paths, path_by_first, path_through_first, no_path}
+use Rattle.shape_graphs.proofs.Laws.{joined_paths, same_paths, path_by_first, path_through_first, no_path}
 use Rattle.reach_rows.specs.Bits.{bit_in, IsSet, IsTaken, IsAdded, AreBitsOf}
 
 -- the row is taken: by what it was before

@@ -12,7 +12,7 @@ use Rattle.bars.specs.Sides.{side_axis}
 use Rattle.shape_graphs.specs.Graphs.{arcs_of, side_arc}
 use Rattle.shape_graphs.specs.Measures.{IsLeastKey}
 use Rattle.shape_graphs.specs.Paths.{HasPath}
-use Rattle.shape_graphs.proofs.SharedLemmas.{one_least, path_decided}
+use Rattle.shape_graphs.proofs.Laws.{one_least, path_decided}
 use Rattle.separation.specs.Branching.{IsBranchPair, IsNotAfter}
 use Rattle.separation.specs.Reaching.{ClosesCycle, HasOpenSides, IsSideOpen}
 

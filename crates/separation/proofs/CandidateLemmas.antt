@@ -12,7 +12,7 @@ use Rattle.compact_types.specs.declared.search.Choice.{Choice}
 use Rattle.compact_types.specs.Drawings.{HasWays}
 use Rattle.bars.specs.Segments.{segment_count, ShareVertex}
 use Rattle.bars.specs.Solutions.{HasDrawing}
-use Rattle.bars.proofs.SharedLemmas.{low_vertex, high_vertex, low_at, high_at, bounds_from_on}
+use Rattle.bars.proofs.Laws.{low_vertex, high_vertex, low_at, high_at, bounds_from_on}
 use Rattle.separation.specs.declared.candidates.Candidate.{Candidate}
 use Rattle.separation.specs.declared.extents.SegmentExtent.{SegmentExtent}
 use Rattle.separation.specs.Branching.{IsNotAfter}

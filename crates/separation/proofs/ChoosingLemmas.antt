@@ -13,7 +13,7 @@ use Rattle.compact_types.specs.Drawings.{IsDrawing}
 use Rattle.bars.specs.Segments.{segment_count, IsPair}
 use Rattle.bars.specs.Sides.{StandsBefore, SideHolds}
 use Rattle.bars.specs.Solutions.{HasDrawing, Fit, IsChoice, Solves, choice_at, with_choice}
-use Rattle.bars.proofs.SharedLemmas.{stands_before, nodes_apart}
+use Rattle.bars.proofs.Laws.{stands_before, nodes_apart}
 use Rattle.shape_graphs.specs.Separation.{IsSeparated, IsComplete}
 use Rattle.separation.specs.declared.extents.SegmentExtent.{SegmentExtent}
 use Rattle.separation.specs.declared.sides.Reach.{Reach}

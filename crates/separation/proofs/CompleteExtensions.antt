@@ -10,7 +10,7 @@ use Rattle.compact_types.specs.declared.places.Point.{Point}
 use Rattle.compact_types.specs.declared.places.Places.{Places}
 use Rattle.compact_types.specs.declared.plan.Shape.{Shape}
 use Rattle.compact_types.specs.declared.search.Choice.{Choice}
-use Rattle.compact_types.proofs.SharedLemmas.{drawing_of_crossing_free}
+use Rattle.compact_types.proofs.Laws.{drawing_of_crossing_free}
 use Rattle.compact_types.specs.Connected.{IsAlong}
 use Rattle.compact_types.specs.Drawings.{HasWays, IsDrawing, MayShare, OnPiece}
 use Rattle.compact_types.specs.Lookups.{place, piece_at, way_at, along, other_axis, axis_of, IsEnd, HaveSameEnds}
@@ -18,9 +18,9 @@ use Rattle.bars.specs.Lines.{line_of}
 use Rattle.bars.specs.Segments.{segment_count, segment_at, IsOnSegment, IsPieceOf, ShareVertex, IsPair}
 use Rattle.bars.specs.Sides.{StandsBefore, SideHolds}
 use Rattle.bars.specs.Solutions.{HasDrawing, Fit, Solves, choice_at, with_choice}
-use Rattle.bars.proofs.SharedLemmas.{GoesAlong, low_of, high_of, coordinate, same_point, other_twice, axis_or_other, low_and_high, end_is, low_is_end, high_is_end, straight, rises, spans_on, Spans, level_line, in_line_from_number, ClimbsAlong, climb_rises, climb_grows, beside, one_behind, one_from, one_to, compared, of_some_segment, piece_low_on, piece_high_on, low_at, high_at, low_bounds, high_vertex, IsInBounds, on_from_bounds, bounds_from_on, stands_before, nodes_apart, some_or_none}
+use Rattle.bars.proofs.Laws.{GoesAlong, low_of, high_of, coordinate, same_point, other_twice, axis_or_other, low_and_high, end_is, low_is_end, high_is_end, straight, rises, spans_on, Spans, level_line, in_line_from_number, ClimbsAlong, climb_rises, climb_grows, beside, one_behind, one_from, one_to, compared, of_some_segment, piece_low_on, piece_high_on, low_at, high_at, low_bounds, high_vertex, IsInBounds, on_from_bounds, bounds_from_on, stands_before, nodes_apart, some_or_none}
 use Rattle.shape_graphs.specs.Separation.{IsSeparated, IsComplete}
-use Rattle.shape_graphs.proofs.SharedLemmas.{side_from_path}
+use Rattle.shape_graphs.proofs.Laws.{side_from_path}
 use Rattle.separation.specs.Meetings.{ShareAPoint, AreApart}
 
 -- two pieces with the same ends along one axis are not across each other

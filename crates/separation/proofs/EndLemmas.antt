@@ -18,7 +18,7 @@ use Rattle.compact_types.specs.Lookups.{along, place, other_axis}
 use Rattle.bars.specs.Segments.{segment_count, node_of, node_count, low_node, high_node}
 use Rattle.bars.specs.Lines.{line_count}
 use Rattle.bars.specs.Solutions.{HasDrawing}
-use Rattle.bars.proofs.SharedLemmas.{low_below, high_below, line_below, level_node, few_lines, few_segments}
+use Rattle.bars.proofs.Laws.{low_below, high_below, line_below, level_node, few_lines, few_segments}
 use Rattle.separation.specs.declared.extents.SegmentExtent.{SegmentExtent}
 use Rattle.shape_graphs.specs.Flows.{number_at}
 use Rattle.separation.specs.inner.Extents.{nowhere, extent_at, IsAtNode, AreAtNodes, IsExtent, BeginInOrder, ArePut, HasRoom, meet_in_x, meet_in_y, overlap, turned_along, AreTurned, AreExtents, IsExtentAlong, AreExtentsAlong}

@@ -9,4 +9,4 @@ pub mod SortedSegments
 pub mod ReachLemmas
 pub mod ChoosingLemmas
 pub mod BranchLaws
-pub mod SharedLemmas
+pub mod Laws

@@ -3,7 +3,7 @@ use Rattle.std.proofs.Common.{◌≡◌, ◌<◌, ◌≤◌, ℕ, ◌⊎◌, inl
 use Rattle.std.proofs.lemmas.Bool.{cases_order}
 use Rattle.compact_types.specs.declared.plan.Shape.{Shape}
 use Rattle.bars.specs.Segments.{segment_count, IsPair, IsOnSegment, ShareVertex}
-use Rattle.bars.proofs.SharedLemmas.{vertex_on}
+use Rattle.bars.proofs.Laws.{vertex_on}
 
 -- of two segments without a common vertex the one with the lesser number stands first
 pub turned_pair : (shape : Shape) (a b : ℕ) → a < segment_count shape → b < segment_count shape → b ≤ a → (ShareVertex shape a b → ⊥) → IsPair shape b a

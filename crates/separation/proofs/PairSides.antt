@@ -3,8 +3,8 @@ use Rattle.std.proofs.Common.{ℕ, ◌<◌}
 use Rattle.compact_types.specs.declared.plan.Shape.{Shape}
 use Rattle.bars.specs.Segments.{segment_count, node_count, IsPair, low_node, high_node}
 use Rattle.bars.specs.Sides.{side_axis, first_at_side, second_at_side}
-use Rattle.bars.proofs.SharedLemmas.{low_below, high_below}
-use Rattle.shape_graphs.proofs.SharedLemmas.{first_below}
+use Rattle.bars.proofs.Laws.{low_below, high_below}
+use Rattle.shape_graphs.proofs.Laws.{first_below}
 use Rattle.separation.proofs.CompleteExtensions.{first_there}
 
 module _ (shape : Shape) (s t side : ℕ) (pair : IsPair shape s t) where

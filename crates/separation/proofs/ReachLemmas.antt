@@ -13,14 +13,14 @@ use Rattle.bars.specs.Lines.{is_axis}
 use Rattle.bars.specs.Segments.{node_count}
 use Rattle.bars.specs.Sides.{side_axis}
 use Rattle.bars.specs.Solutions.{with_choice, choice_at}
-use Rattle.bars.proofs.SharedLemmas.{is_axis_at}
+use Rattle.bars.proofs.Laws.{is_axis_at}
 use Rattle.shape_graphs.specs.declared.graph.Arc.{Arc}
 use Rattle.shape_graphs.specs.Arcs.{arc_at, no_arc}
 use Rattle.shape_graphs.specs.Graphs.{side_arc, piece_arcs, choice_arc_along, choice_arcs, arcs_of}
 use Rattle.shape_graphs.specs.Paths.{HasPath}
 use Rattle.shape_graphs.specs.Paths.HasPath.{along_arc, arc_and_path}
 use Rattle.shape_graphs.specs.Separation.{IsSeparated}
-use Rattle.shape_graphs.proofs.SharedLemmas.{has_choice_arc}
+use Rattle.shape_graphs.proofs.Laws.{has_choice_arc}
 use Rattle.reach_rows.specs.declared.rows.ReachRows.{ReachRows}
 use Rattle.reach_rows.specs.Reaching.{AreRowsOf}
 

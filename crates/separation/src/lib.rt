@@ -10,7 +10,7 @@ mod candidates;
 mod complete;
 mod extension;
 mod extents;
-mod laws;
+mod law;
 mod sharing;
 mod sides;
 mod splitting;
@@ -21,7 +21,7 @@ mod tests;
 pub use branching::branch_pair;
 pub use complete::is_complete;
 pub use extension::extension_of;
-pub use laws::{
+pub use law::{
     branch_pairs_are_one, complete_solutions_are_drawings, drawings_are_apart, drawings_take_a_side,
 };
 pub use sharing::sharing_pair;

@@ -3,7 +3,7 @@ use Rattle.std.proofs.Common.{◌≡◌, ℕ, suc, ◌+◌, ◌<◌, Option, Som
 use Rattle.std.specs.Prelude.{option_to_list}
 use Rattle.std.specs.List.{filter_map, cons_option, range_with_len}
 use Rattle.std.proofs.lemmas.List.{append-nil, take_more}
-use Rattle.compact_types.proofs.SharedLemmas.{range_push}
+use Rattle.compact_types.proofs.Laws.{range_push}
 
 -- what is kept of one value more
 cons_some : {B : Type 0} (o : Option B) (ys : List B) → cons_option o ys ≡ option_to_list o ++ ys

@@ -7,7 +7,7 @@ use Rattle.compact_types.specs.declared.places.Axis.{Axis}
 use Rattle.compact_types.specs.declared.plan.Shape.{Shape}
 use Rattle.bars.specs.Lines.{count_to, is_along}
 use Rattle.bars.specs.Solutions.{HasDrawing}
-use Rattle.bars.proofs.SharedLemmas.{GoesAlong, low_of, low_is_vertex, is_axis_same, one_from}
+use Rattle.bars.proofs.Laws.{GoesAlong, low_of, low_is_vertex, is_axis_same, one_from}
 use Rattle.shape_graphs.specs.declared.graph.Arc.{Arc}
 use Rattle.shape_graphs.specs.Graphs.{piece_arc, piece_arcs}
 

@@ -10,7 +10,7 @@ use Rattle.compact_types.specs.declared.plan.Shape.{Shape}
 use Rattle.bars.specs.Lines.{is_axis, is_along}
 use Rattle.bars.specs.Sides.{side_axis}
 use Rattle.bars.specs.Solutions.{choice_at}
-use Rattle.bars.proofs.SharedLemmas.{GoesAlong, is_axis_same, is_axis_at}
+use Rattle.bars.proofs.Laws.{GoesAlong, is_axis_same, is_axis_at}
 use Rattle.shape_graphs.specs.declared.graph.Arc.{Arc}
 use Rattle.shape_graphs.specs.Arcs.{arc_at, no_arc}
 use Rattle.shape_graphs.specs.Graphs.{piece_arc, side_arc, piece_arcs, choice_arcs, arcs_of, piece_arc_along, choice_arc_along}

@@ -7,7 +7,7 @@ use Rattle.compact_types.specs.declared.plan.Shape.{Shape}
 use Rattle.compact_types.specs.Lookups.{other_axis}
 use Rattle.bars.specs.Segments.{node_count}
 use Rattle.bars.specs.Solutions.{Fit, IsSound, choice_at}
-use Rattle.bars.proofs.SharedLemmas.{line_below}
+use Rattle.bars.proofs.Laws.{line_below}
 use Rattle.shape_graphs.specs.declared.graph.Arc.{Arc}
 use Rattle.shape_graphs.specs.Arcs.{arc_at, IsArcWithin, AreGraph}
 use Rattle.shape_graphs.specs.Graphs.{piece_arc, side_arc, piece_arcs, choice_arcs, arcs_of}

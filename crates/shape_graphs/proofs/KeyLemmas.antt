@@ -13,7 +13,7 @@ use Rattle.compact_types.specs.Bests.{Objective, key_of}
 use Rattle.compact_types.specs.Drawings.{IsFromZero}
 use Rattle.compact_types.specs.Lookups.{along, place}
 use Rattle.compact_types.specs.Orders.{IsBefore, IsListBefore, numbers_of}
-use Rattle.compact_types.proofs.SharedLemmas.{before_or_equal, same_key}
+use Rattle.compact_types.proofs.Laws.{before_or_equal, same_key}
 use Rattle.bars.specs.Solutions.{Solves}
 use Rattle.shape_graphs.specs.declared.measure.Verdict.{Verdict}
 use Rattle.shape_graphs.specs.declared.measure.Verdict.TheVariants.{Cyclic, Above, Least}

@@ -11,7 +11,7 @@ pub mod KeyLemmas
 pub mod FilterMaps
 pub mod GraphArcs
 pub mod NumbersFromPlaces
-pub mod SharedLemmas
+pub mod Laws
 pub mod FewArcs
 pub mod GraphFacts
 pub mod PlacesFromNumbers

@@ -7,12 +7,12 @@ use Rattle.compact_types.specs.declared.search.Choice.{Choice}
 use Rattle.compact_types.specs.declared.plan.Shape.{Shape}
 use Rattle.compact_types.specs.Drawings.{HasWays}
 use Rattle.compact_types.specs.Lookups.{piece_at, way_at, axis_of, other_axis}
-use Rattle.compact_types.proofs.SharedLemmas.{way_from_straight}
+use Rattle.compact_types.proofs.Laws.{way_from_straight}
 use Rattle.bars.specs.Lines.{line_of}
 use Rattle.bars.specs.Segments.{segment_count, node_of}
 use Rattle.bars.specs.Sides.{side_axis, first_at_side, second_at_side, SideHolds}
 use Rattle.bars.specs.Solutions.{HasDrawing, Fit, Solves, choice_at}
-use Rattle.bars.proofs.SharedLemmas.{GoesAlong, low_of, high_of, coordinate, rises, level_node, low_is_vertex, high_is_vertex, low_vertex, number_from_in_line, ends_in_line, other_twice, high_vertex, low_bounds, high_bounds}
+use Rattle.bars.proofs.Laws.{GoesAlong, low_of, high_of, coordinate, rises, level_node, low_is_vertex, high_is_vertex, low_vertex, number_from_in_line, ends_in_line, other_twice, high_vertex, low_bounds, high_bounds}
 use Rattle.shape_graphs.specs.declared.graph.Arc.{Arc}
 use Rattle.shape_graphs.specs.Arcs.{arc_at}
 use Rattle.shape_graphs.specs.Graphs.{piece_arc, side_arc, arcs_of}

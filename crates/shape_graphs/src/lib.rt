@@ -9,7 +9,7 @@ mod cycle;
 mod graph;
 mod graphs;
 mod growing;
-mod laws;
+mod law;
 mod measure;
 mod trail;
 
@@ -17,7 +17,7 @@ pub use cycle::{arcs_in_order, find_cycle};
 pub use graph::{Arc, Cycle, DiffGraph, GREATEST_LEAST, GREATEST_PULL, MOST_AMOUNT, MOST_ARCS};
 pub use graphs::{axis_of_side, graphs_of, side_arc};
 pub use growing::{GrowingGraph, GrowingGraphs};
-pub use laws::{cycles_and_walks, paths_of_arcs, places_by_graphs, solutions_and_cycles};
+pub use law::{cycles_and_walks, paths_of_arcs, places_by_graphs, solutions_and_cycles};
 pub use measure::{Backing, Measure, Verdict, Workspace, least_keys, verdicts_are_exact};
 
 #[cfg(test)]

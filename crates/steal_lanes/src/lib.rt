@@ -10,7 +10,7 @@
 #![tactic(auto)]
 
 mod lanes;
-mod laws;
+mod law;
 mod passes;
 mod rules;
 #[cfg(test)]
@@ -19,7 +19,7 @@ mod thieves;
 mod views;
 
 pub use lanes::Lane;
-pub use laws::{lanes_are_queues, places_are_got_once};
+pub use law::{lanes_are_queues, places_are_got_once};
 pub use passes::LanePass;
 pub use thieves::{Stolen, Thief};
 pub use views::{LaneView, Taken};

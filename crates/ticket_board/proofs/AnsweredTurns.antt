@@ -20,7 +20,7 @@ use Rattle.board.specs.Boards.{BoardView, IsClaimAnswer, IsOutcome, after_claim,
 use Rattle.board.specs.Facts.{AreFacts, AreSound}
 use Rattle.board.specs.Histories.{State, IsHeldBy, IsKnown, IsLegal, IsWaiting, caller_of, choices_of, state_of}
 use Rattle.board.specs.Verdicts.{IsBranchPairFor, IsSoundVerdict}
-use Rattle.board.proofs.SharedLemmas.{choices_stay, held_not_settled, holder_holds, held_open, open_inside, state_with, waiting_open}
+use Rattle.board.proofs.Laws.{choices_stay, held_not_settled, holder_holds, held_open, open_inside, state_with, waiting_open}
 use Rattle.ticket_board.specs.declared.views.CallerView.{CallerView}
 use Rattle.ticket_board.specs.Passes.{PassView, Begins, HasSeenMore, IsHolding, entries_by, turned}
 use Rattle.ticket_board.specs.Turns.{ChildrenFit, IsClaimed, IsGranted, IsSettledOn}

@@ -11,7 +11,7 @@ use Rattle.board.specs.declared.standings.Standing.{Standing}
 use Rattle.board.specs.declared.standings.Standing.TheVariants.{Waiting, Held, Done}
 use Rattle.board.specs.Boards.{BoardView, after_settle, board_state}
 use Rattle.board.specs.Histories.{State, IsHeldBy, IsOutcomeOf, IsSettled, standings_opened, state_of}
-use Rattle.board.proofs.SharedLemmas.{held_open, open_inside, state_with}
+use Rattle.board.proofs.Laws.{held_open, open_inside, state_with}
 use Rattle.ticket_board.specs.Turns.{ChildrenFit}
 
 abbrev outcome_in : Standing → Settled

@@ -11,7 +11,7 @@ use Rattle.board.specs.declared.entries.Claim.TheVariants.{Yours, Taken, Strange
 use Rattle.board.specs.declared.entries.Entry.TheVariants as entry
 use Rattle.board.specs.Boards.{BoardView, IsClaimAnswer, after_claim, board_state}
 use Rattle.board.specs.Histories.{HasNoParent, IsKnown, branch_count, choices_of, state_of}
-use Rattle.board.proofs.SharedLemmas.{choices_stay, known_stays}
+use Rattle.board.proofs.Laws.{choices_stay, known_stays}
 use Rattle.ticket_board.specs.Turns.{IsStartOf}
 use Rattle.ticket_board.specs.inner.Turns.{IsProofBefore}
 

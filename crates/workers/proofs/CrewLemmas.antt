@@ -8,7 +8,7 @@ use Rattle.compact_types.specs.declared.plan.Shape.{Shape}
 use Rattle.board.specs.declared.entries.Entry.{Entry}
 use Rattle.board.specs.Boards.{BoardView}
 use Rattle.board.specs.Histories.{IsLegal, open_count_of, state_of}
-use Rattle.board.proofs.SharedLemmas.{nothing_opens_again}
+use Rattle.board.proofs.Laws.{nothing_opens_again}
 use Rattle.least_word.specs.declared.view.View.{View}
 use Rattle.least_word.specs.Views.{after_halt_load}
 use Rattle.least_word.specs.Seats.{WordHome}

@@ -10,7 +10,7 @@ use Rattle.board.specs.Boards.{BoardView, board_state, IsLatestWaiting, NoneWait
 use Rattle.board.specs.Facts.{AreFacts}
 use Rattle.workers.specs.Searches.{HasEnded}
 use Rattle.workers.specs.inner.Turns.{AreAllSettled, IsBetweenTurns}
-use Rattle.board.proofs.SharedLemmas.{none_open_is_best, told}
+use Rattle.board.proofs.Laws.{none_open_is_best, told}
 use Rattle.workers.proofs.TurnLemmas.{none_open}
 
 -- between two turns every branch is settled where none waits

@@ -15,8 +15,8 @@ use Rattle.shape_graphs.specs.declared.measure.Verdict.TheVariants.{Cyclic, Abov
 use Rattle.shape_graphs.specs.Graphs.{arcs_of}
 use Rattle.shape_graphs.specs.Measures.{IsAsked, IsBoundAbove, IsFirstCyclic, IsLeastKey, IsRight}
 use Rattle.shape_graphs.specs.Separation.{IsComplete}
-use Rattle.shape_graphs.proofs.SharedLemmas.{cycle_is_one, no_cycle_where_solved}
-use Rattle.separation.proofs.SharedLemmas.{drawn_from_complete}
+use Rattle.shape_graphs.proofs.Laws.{cycle_is_one, no_cycle_where_solved}
+use Rattle.separation.proofs.Laws.{drawn_from_complete}
 use Rattle.board.specs.Facts.{IsDrawnKey}
 
 module _ (objective : Objective) (shape : Shape) (choices : List Choice) (places : Places) (drawing : IsDrawing shape places) (fit : Fit shape choices) (solves : Solves shape choices places) where

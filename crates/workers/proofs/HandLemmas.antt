@@ -17,7 +17,7 @@ use Rattle.board.specs.declared.entries.Settled.{Settled}
 use Rattle.board.specs.declared.entries.Settled.TheVariants.{Split, Closed, Improved}
 use Rattle.board.specs.declared.standings.Standing.TheVariants.{Done}
 use Rattle.board.specs.Histories.{HasChildren, IsKnown, IsLegal, State, after, branch_count, standing_of, standings_opened, state_of}
-use Rattle.board.proofs.SharedLemmas.{choices_stay, known_stays, splits_have_children, state_with}
+use Rattle.board.proofs.Laws.{choices_stay, known_stays, splits_have_children, state_with}
 use Rattle.least_word.specs.declared.view.View.{View}
 use Rattle.least_word.specs.Seats.{SeatView}
 use Rattle.least_word.specs.Views.{after_load}

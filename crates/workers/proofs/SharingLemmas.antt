@@ -14,7 +14,7 @@ use Rattle.shape_graphs.specs.Measures.{IsFoundLeast, IsRight}
 use Rattle.board.specs.declared.entries.Settled.{Settled}
 use Rattle.board.specs.Facts.{IsDrawnKey}
 use Rattle.board.specs.Verdicts.{IsBranchPairFor}
-use Rattle.board.proofs.SharedLemmas.{worth_not_negative}
+use Rattle.board.proofs.Laws.{worth_not_negative}
 use Rattle.steal_lanes.specs.States.{LaneState}
 use Rattle.steal_lanes.specs.Views.{with_branch}
 use Rattle.workers.specs.inner.Sharing.{HasPut, IsSolvedFor, children_to_put}

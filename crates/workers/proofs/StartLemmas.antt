@@ -11,7 +11,7 @@ use Rattle.board.specs.declared.entries.Entry.TheVariants as entries
 use Rattle.board.specs.declared.entries.Settled.TheVariants.{Closed}
 use Rattle.board.specs.declared.standings.Standing.TheVariants.{Done, Held, Waiting}
 use Rattle.board.specs.Histories.{IsWaiting, State, after, branch_count, opened, replayed, standing_of, standings_opened, state_of}
-use Rattle.board.proofs.SharedLemmas.{replayed-append, state_with}
+use Rattle.board.proofs.Laws.{replayed-append, state_with}
 use Rattle.ticket_board.specs.Passes.{Begins, BoardHome, HasSeenMore, PassView}
 use Rattle.ticket_board.specs.Turns.{IsClaimed}
 use Rattle.workers.specs.declared.hands.Hand.{Hand}

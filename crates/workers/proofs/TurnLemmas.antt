@@ -23,7 +23,7 @@ use Rattle.board.specs.Histories.{State, opened, after, branch_count, choices_of
 use Rattle.board.specs.Verdicts.{IsBranchPairFor, IsSoundVerdict}
 use Rattle.board.specs.Works.{work_left}
 use Rattle.workers.specs.inner.Turns.{IsBetweenTurns, IsAfterTurn, work_ahead}
-use Rattle.board.proofs.SharedLemmas.{all_fit-append, state_with, work_stays, work_falls, few_choices_of}
+use Rattle.board.proofs.Laws.{all_fit-append, state_with, work_stays, work_falls, few_choices_of}
 
 -- a branch that stands otherwise than done is one of the branches
 waiting_below : (state : State) (id : ℕ) → IsWaiting state id → id < branch_count state

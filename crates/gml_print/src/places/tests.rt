@@ -41,7 +41,7 @@ fn may_be_put(places: &Places) -> bool
 }
 
 #[test]
-#[tactic(auto, using(drawing_read::proofs::SharedLemmas::readable_legible))]
+#[tactic(auto, using(drawing_read::proofs::Laws::readable_legible))]
 fn numerals_at_their_spots(rt: HostRuntime) -> Result<(), Fail> {
     let tree = read_tree(rt.alloc(), BENT)?;
     let reading = read_drawing(rt.alloc(), &tree)?;

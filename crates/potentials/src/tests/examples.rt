@@ -43,7 +43,7 @@ fn extension_with(alloc: Global, bars: &Bars, choice: Option<Choice>) -> Result<
 }
 
 /// The extension with this choice as its last.
-#[tactic(auto, using(shape_graphs::proofs::SharedLemmas::fit_more))]
+#[tactic(auto, using(shape_graphs::proofs::Laws::fit_more))]
 pub(crate) fn longer(bars: &Bars, extension: &Extension, choice: Choice) -> Result<Extension, Fail>
     requires { Fit bars.now extension.now.choices }
     ensures fit { IfOk result (λ longer. Fit bars.now longer.choices) }

@@ -1,5 +1,5 @@
 use Rattle.std.proofs.Common.{arith}
-use Rattle.shape_graphs.proofs.SharedLemmas.{fit_more}
+use Rattle.shape_graphs.proofs.Laws.{fit_more}
 use Rattle.cert_check.proofs.BranchLemmas.{at_pushed}
 use Rattle.cert_check.proofs.walk.split.Goals as goal
 

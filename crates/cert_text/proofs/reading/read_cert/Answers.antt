@@ -1,4 +1,4 @@
-use Rattle.compact_types.proofs.SharedLemmas.{decides_by_one_answer}
+use Rattle.compact_types.proofs.Laws.{decides_by_one_answer}
 use Rattle.cert_text.proofs.ReadCertificates.{few}
 use Rattle.cert_text.proofs.ReadEvery.{one_certificate}
 use Rattle.cert_text.proofs.reading.read_cert.Goals as goal

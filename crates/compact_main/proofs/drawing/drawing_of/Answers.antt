@@ -1,6 +1,6 @@
 use Rattle.std.proofs.Common.{Err, sym, subst}
 use Rattle.compact_types.specs.declared.plan.Shape.{Shape as AnyShape}
-use Rattle.compact_types.proofs.SharedLemmas.{decides_by_one_answer}
+use Rattle.compact_types.proofs.Laws.{decides_by_one_answer}
 use Rattle.drawing_check.specs.Faults.{FirstShapeFault}
 use Rattle.drawing_check.specs.Shapes.{IsShapeOf}
 use Rattle.compact_main.specs.declared.drawing.Drawing.{Drawing}

@@ -1,4 +1,4 @@
-use Rattle.cert_check.proofs.SharedLemmas.{no_fault}
+use Rattle.cert_check.proofs.Laws.{no_fault}
 use Rattle.compact_main.proofs.sampled.check_own.Goals as goal
 
 pub unreachable-requires : goal.unreachable-requires

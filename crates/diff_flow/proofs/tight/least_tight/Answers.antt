@@ -1,4 +1,4 @@
-use Rattle.shape_graphs.proofs.SharedLemmas.{no_cycle_in_solution}
+use Rattle.shape_graphs.proofs.Laws.{no_cycle_in_solution}
 use Rattle.diff_flow.proofs.tight.least_tight.Goals as goal
 
 pub returns-in-None-clause-numbers : goal.returns-in-None-clause-numbers

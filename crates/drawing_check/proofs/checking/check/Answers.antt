@@ -1,6 +1,6 @@
 use Rattle.std.proofs.Common.{Ok, Err, rules}
 use Rattle.compact_types.specs.declared.refusal.Refusal.TheVariants.{Fault}
-use Rattle.compact_types.proofs.SharedLemmas.{shape_of, decides_by_one_answer}
+use Rattle.compact_types.proofs.Laws.{shape_of, decides_by_one_answer}
 use Rattle.drawing_check.proofs.AnswerLemmas.{one_answer}
 use Rattle.drawing_check.proofs.ShapeLemmas.{ways_found, shape_from_parts}
 use Rattle.drawing_check.proofs.checking.check.Goals as goal

@@ -4,7 +4,7 @@ use Rattle.compact_types.specs.declared.plan.Way.{Way}
 use Rattle.compact_types.specs.Lookups.{way_at}
 use Rattle.compact_types.specs.Ways.{HasWay}
 use Rattle.compact_types.specs.Drawings.{begin_of, end_of}
-use Rattle.compact_types.proofs.SharedLemmas.{read_ends}
+use Rattle.compact_types.proofs.Laws.{read_ends}
 use Rattle.drawing_check.proofs.ways.has_ways.Goals as goal
 
 pub loop-i-preserved : goal.loop-i-preserved

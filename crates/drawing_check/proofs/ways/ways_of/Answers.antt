@@ -2,7 +2,7 @@ use Rattle.std.proofs.Common.{◌<◌, arith, ap, length}
 use Rattle.compact_types.specs.declared.places.Point.{Point}
 use Rattle.compact_types.specs.declared.plan.Way.{Way}
 use Rattle.compact_types.specs.Ways.{HasWay}
-use Rattle.compact_types.proofs.SharedLemmas.{read_ends}
+use Rattle.compact_types.proofs.Laws.{read_ends}
 use Rattle.drawing_check.proofs.WayLemmas.{slanted_without_way, way_not_slanted, ways_one_more}
 use Rattle.drawing_check.proofs.ways.ways_of.Goals as goal
 

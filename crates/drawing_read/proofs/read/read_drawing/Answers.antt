@@ -1,5 +1,5 @@
 use Rattle.std.proofs.Common.{List, length, sym, ap, subst, arith}
-use Rattle.compact_types.proofs.SharedLemmas.{decides_by_one_answer}
+use Rattle.compact_types.proofs.Laws.{decides_by_one_answer}
 use Rattle.gml_text.specs.declared.tree.Pair.{Pair}
 use Rattle.gml_text.specs.declared.tree.Tree.{out-Tree}
 use Rattle.drawing_read.specs.Readings.{IsWithinLimits}

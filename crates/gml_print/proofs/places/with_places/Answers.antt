@@ -2,7 +2,7 @@ use Rattle.std.proofs.Common.{List, subst, sym, arith}
 use Rattle.std.specs.Prelude.{Contains}
 use Rattle.std.proofs.lemmas.List.Elements.{Contains-get_or}
 use Rattle.drawing_read.specs.declared.reading.Spot.{Spot}
-use Rattle.drawing_read.proofs.SharedLemmas.{spot_vertex_below}
+use Rattle.drawing_read.proofs.Laws.{spot_vertex_below}
 use Rattle.gml_print.proofs.places.with_places.Goals as goal
 
 pub numeral_for-requires-clause-vertex : goal.numeral_for-requires-clause-vertex

@@ -1,6 +1,6 @@
 use Rattle.std.proofs.Common.{arith}
 use Rattle.compact_types.specs.declared.places.Axis.TheVariants.{X, Y}
-use Rattle.bars.proofs.SharedLemmas.{line_below}
+use Rattle.bars.proofs.Laws.{line_below}
 use Rattle.potentials.proofs.standing.point_of.Goals as goal
 
 pub bounds-across-column_of : goal.bounds-across-column_of

@@ -1,7 +1,7 @@
 use Rattle.std.proofs.Common.{◌≤◌, arith}
 use Rattle.compact_types.specs.declared.search.Extension.{Extension}
 use Rattle.bars.specs.Segments.{segment_count}
-use Rattle.bars.proofs.SharedLemmas.{few_segments}
+use Rattle.bars.proofs.Laws.{few_segments}
 use Rattle.separation.proofs.EndLemmas.{room_for_all}
 use Rattle.separation.proofs.ChoosingLemmas.{if_ok_more, extension_fits, extension_complete, extension_solved}
 use Rattle.separation.proofs.extension.extension_of.Goals as goal

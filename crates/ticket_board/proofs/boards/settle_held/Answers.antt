@@ -1,4 +1,4 @@
-use Rattle.board.proofs.SharedLemmas.{branch_pairs_settle}
+use Rattle.board.proofs.Laws.{branch_pairs_settle}
 use Rattle.ticket_board.proofs.AddedEntries.{adds_nothing, adds_settle}
 use Rattle.ticket_board.proofs.SettledBranches.{children_fit}
 use Rattle.ticket_board.proofs.boards.settle_held.Goals as goal

@@ -1,5 +1,5 @@
 use Rattle.std.proofs.Common.{refl}
-use Rattle.board.proofs.SharedLemmas.{dot_sound}
+use Rattle.board.proofs.Laws.{dot_sound}
 use Rattle.ticket_board.proofs.tests.dot.Goals as goal
 
 pub bars_of-requires : goal.bars_of-requires

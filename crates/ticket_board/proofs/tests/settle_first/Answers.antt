@@ -1,5 +1,5 @@
 use Rattle.std.proofs.Common.{ap, ◌∙◌}
-use Rattle.board.proofs.SharedLemmas.{dot_least}
+use Rattle.board.proofs.Laws.{dot_least}
 use Rattle.ticket_board.proofs.tests.settle_first.Goals as goal
 
 pub settle-requires-clause-verdict : goal.settle-requires-clause-verdict

@@ -1,6 +1,6 @@
 use Rattle.board.specs.Boards.{board_state}
 use Rattle.board.specs.Histories.{choices_of}
-use Rattle.board.proofs.SharedLemmas.{branch_pairs_settle}
+use Rattle.board.proofs.Laws.{branch_pairs_settle}
 use Rattle.workers.proofs.turns.settle.Goals as goal
 
 pub settle-answer-requires-clause-pair : goal.settle-answer-requires-clause-pair

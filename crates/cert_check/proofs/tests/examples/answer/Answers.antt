@@ -1,5 +1,5 @@
 use Rattle.std.proofs.Common.{[], ◌∷◌, arith}
-use Rattle.cert_text.proofs.SharedLemmas.{shallower_from, whole_shallow}
+use Rattle.cert_text.proofs.Laws.{shallower_from, whole_shallow}
 use Rattle.cert_check.proofs.tests.examples.answer.Goals as goal
 
 pub check_cert-requires-clause-shallow : goal.check_cert-requires-clause-shallow

@@ -1,5 +1,5 @@
 use Rattle.std.proofs.Common.{[]}
-use Rattle.shape_graphs.proofs.SharedLemmas.{some_solution, no_cycle_in_order}
+use Rattle.shape_graphs.proofs.Laws.{some_solution, no_cycle_in_order}
 use Rattle.diff_flow.proofs.TightLemmas.{least_where_met}
 use Rattle.diff_flow.proofs.WalkLemmas.{in_order, some_walks, are_longest}
 use Rattle.diff_flow.proofs.network.Network.of.Goals as goal

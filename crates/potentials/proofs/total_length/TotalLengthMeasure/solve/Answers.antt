@@ -1,4 +1,4 @@
-use Rattle.shape_graphs.proofs.SharedLemmas.{not_before_least}
+use Rattle.shape_graphs.proofs.Laws.{not_before_least}
 use Rattle.compact_types.specs.Bests.Objective.{total_length}
 use Rattle.potentials.proofs.LeastKeys.{some_least_key}
 use Rattle.potentials.proofs.total_length.TotalLengthMeasure.solve.Goals as goal

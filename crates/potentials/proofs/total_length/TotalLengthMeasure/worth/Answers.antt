@@ -1,6 +1,6 @@
 use Rattle.std.proofs.Common.{arith}
 use Rattle.std.proofs.lemmas.Int.{ints}
-use Rattle.compact_types.proofs.SharedLemmas.{plain_length-moved}
+use Rattle.compact_types.proofs.Laws.{plain_length-moved}
 use Rattle.potentials.proofs.PieceLemmas.{few_pieces, length_from_zero}
 use Rattle.potentials.proofs.total_length.TotalLengthMeasure.worth.Goals as goal
 

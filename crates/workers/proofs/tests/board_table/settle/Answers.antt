@@ -1,7 +1,7 @@
 use Rattle.std.proofs.Common.{◌∙◌, sym}
 use Rattle.board.specs.Boards.{board_state}
 use Rattle.board.specs.Histories.{choices_of}
-use Rattle.board.proofs.SharedLemmas.{branch_pairs_settle, first_choices}
+use Rattle.board.proofs.Laws.{branch_pairs_settle, first_choices}
 use Rattle.workers.proofs.TurnLemmas.{pair_on_board, sound_on_board}
 use Rattle.workers.proofs.tests.board_table.settle.Goals as goal
 

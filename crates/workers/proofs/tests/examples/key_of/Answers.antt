@@ -4,7 +4,7 @@ use Rattle.std.proofs.lemmas.Int.{to_z-of_z}
 use Rattle.compact_types.specs.declared.places.Places.{Places}
 use Rattle.compact_types.specs.Bests.{worth_of}
 use Rattle.compact_types.specs.Drawings.{IsDrawing}
-use Rattle.compact_types.proofs.SharedLemmas.{drawing-moved}
+use Rattle.compact_types.proofs.Laws.{drawing-moved}
 use Rattle.workers.proofs.tests.examples.key_of.Goals as goal
 
 pub returns : goal.returns

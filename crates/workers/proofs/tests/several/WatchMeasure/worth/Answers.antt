@@ -1,6 +1,6 @@
 use Rattle.std.proofs.Common.{arith}
 use Rattle.std.proofs.lemmas.Int.{ints}
-use Rattle.compact_types.proofs.SharedLemmas.{plain_length-moved}
+use Rattle.compact_types.proofs.Laws.{plain_length-moved}
 use Rattle.workers.proofs.tests.several.WatchMeasure.worth.Goals as goal
 
 pub returns-clause-moved : goal.returns-clause-moved

@@ -1,5 +1,0 @@
-use Rattle.board.proofs.OpenLaws.{all_settled}
-use Rattle.board.proofs.laws.histories.all_settled.Goals as goal
-
-pub returns : goal.returns
-returns c = all_settled

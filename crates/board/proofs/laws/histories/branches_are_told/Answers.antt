@@ -1,5 +1,0 @@
-use Rattle.board.proofs.TellingLaws.{told}
-use Rattle.board.proofs.laws.histories.branches_are_told.Goals as goal
-
-pub returns : goal.returns
-returns c = told

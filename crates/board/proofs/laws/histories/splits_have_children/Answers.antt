@@ -1,5 +1,0 @@
-use Rattle.board.proofs.SplitLaws.{splits_have_children}
-use Rattle.board.proofs.laws.histories.splits_have_children.Goals as goal
-
-pub returns : goal.returns
-returns c = splits_have_children

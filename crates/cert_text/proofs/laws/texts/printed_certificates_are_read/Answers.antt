@@ -1,5 +1,0 @@
-use Rattle.cert_text.proofs.ReadPrinted.{printed_certificate}
-use Rattle.cert_text.proofs.laws.texts.printed_certificates_are_read.Goals as goal
-
-pub returns : goal.returns
-returns c = printed_certificate

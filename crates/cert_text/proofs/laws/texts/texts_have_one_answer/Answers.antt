@@ -1,5 +1,0 @@
-use Rattle.cert_text.proofs.ReadEvery.{one_certificate}
-use Rattle.cert_text.proofs.laws.texts.texts_have_one_answer.Goals as goal
-
-pub returns : goal.returns
-returns c = one_certificate

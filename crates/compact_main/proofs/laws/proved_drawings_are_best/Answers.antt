@@ -1,5 +1,0 @@
-use Rattle.compact_main.proofs.ProvedAnswers.{proved_best}
-use Rattle.compact_main.proofs.laws.proved_drawings_are_best.Goals as goal
-
-pub returns : goal.returns
-returns c = proved_best

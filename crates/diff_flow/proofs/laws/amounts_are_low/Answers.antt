@@ -1,5 +1,0 @@
-use Rattle.diff_flow.proofs.LowLemmas.{amounts_low}
-use Rattle.diff_flow.proofs.laws.amounts_are_low.Goals as goal
-
-pub returns : goal.returns
-returns c = amounts_low

@@ -1,5 +1,0 @@
-use Rattle.drawing_read.proofs.ReadingLimits.{reading_within_limits}
-use Rattle.drawing_read.proofs.laws.readings_are_within_limits.Goals as goal
-
-pub returns : goal.returns
-returns c = reading_within_limits
