@@ -19,7 +19,7 @@ pub use law::{
     accepted_is_best, certificates_are_comments, made_is_best, printed_certificates_are_read,
     shallower, texts_have_one_answer, whole_trees_are_shallow,
 };
-pub use printing::{append_cert, print_cert};
+pub use printing::{print_cert, with_cert};
 pub use reading::read_cert;
 pub use tree::{CertNode, CertTree, Load, MOST_NUMBER};
 pub use trimming::{MOST_SPLITS, trim};

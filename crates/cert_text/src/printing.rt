@@ -18,20 +18,19 @@ pub fn print_cert(alloc: Global, tree: &CertTree, pitch: u32) -> Result<Items<u8
     requires pitch { IsPitch pitch }
     ensures { IfOk result (λ text. text ≡ certificate_text pitch tree.now.nodes) }
 {
-    let mut text = Items::new(alloc);
-    append_cert(&mut text, tree, pitch)?;
-    Ok(text)
+    with_cert(Items::new(alloc), tree, pitch)
 }
 
-/// Adds the text of the certificate to `text`. Without memory a beginning of it may have been
-/// added; what `text` had before stays in front.
-pub fn append_cert(text: &mut Items<u8>, tree: &CertTree, pitch: u32) -> Result<(), NoMemory>
+/// The text with that of the certificate after it. Without memory it is let go.
+pub fn with_cert(text: Items<u8>, tree: &CertTree, pitch: u32) -> Result<Items<u8>, NoMemory>
     requires tree { IsCertTree tree.now.nodes }
     requires pitch { IsPitch pitch }
-    ensures { OnOk result (text.new ≡ text.old ++ certificate_text pitch tree.now.nodes) }
+    ensures { IfOk result (λ longer. longer ≡ text ++ certificate_text pitch tree.now.nodes) }
 {
-    write_head(text, pitch)?;
-    write_entries(text, tree.nodes.as_slice())
+    let mut longer = text;
+    write_head(&mut longer, pitch)?;
+    write_entries(&mut longer, tree.nodes.as_slice())?;
+    Ok(longer)
 }
 
 /// Adds the head line to `text`.

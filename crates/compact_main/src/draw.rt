@@ -15,7 +15,7 @@ use crate::command::{Command, Form};
 use crate::drawing::{Drawing, input_of};
 use crate::search::{Search, certificate_of};
 use crate::status::Failure;
-use cert_text::{CertTree, append_cert};
+use cert_text::{CertTree, with_cert};
 use compact_types::{Flows, Items, NoMemory, Places, Refusal};
 use gml_print::{print_tree, with_places};
 use std::alloc::Global;
@@ -88,13 +88,12 @@ fn write_certified(
 }
 
 /// The text with the certificate after it.
-fn with_certificate(mut text: Items<u8>, tree: &CertTree, pitch: u32) -> Result<Items<u8>, NoMemory>
+fn with_certificate(text: Items<u8>, tree: &CertTree, pitch: u32) -> Result<Items<u8>, NoMemory>
     requires tree { IsCertTree tree.now.nodes }
     requires pitch { IsPitch pitch }
     ensures { IfOk result (IsCertified pitch text tree.now.nodes) }
 {
-    append_cert(&mut text, tree, pitch)?;
-    Ok(text)
+    with_cert(text, tree, pitch)
 }
 
 /// The drawing with the best places, alone.

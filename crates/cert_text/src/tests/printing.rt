@@ -4,7 +4,7 @@ ghost use Rattle.std.specs.Prelude.{◌≡◌, IfOk};
 ghost use Rattle.cert_text.specs.Certificates.{IsPitch};
 ghost use Rattle.cert_text.specs.Loads.{AreLoads, IsCertTree};
 
-use crate::{CertNode, CertTree, Load, append_cert, print_cert};
+use crate::{CertNode, CertTree, Load, print_cert, with_cert};
 use compact_types::{Axis, Items, NoMemory};
 use std::alloc::Global;
 use std::test::Fail;
@@ -74,8 +74,8 @@ fn is_text(alloc: Global, tree: &CertTree, pitch: u32, expected: &[u8]) -> Resul
     requires pitch { IsPitch pitch }
 {
     let printed = print_cert(alloc, tree, pitch)?;
-    let mut appended = Items::from_slice(alloc, b"graph [\n]\n")?;
-    append_cert(&mut appended, tree, pitch)?;
+    let front = Items::from_slice(alloc, b"graph [\n]\n")?;
+    let appended = with_cert(front, tree, pitch)?;
     let mut both = Items::from_slice(alloc, b"graph [\n]\n")?;
     both.extend_from_slice(expected)?;
     Ok(printed.as_slice() == expected && appended.as_slice() == both.as_slice())
