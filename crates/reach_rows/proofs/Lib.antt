@@ -1,3 +1,4 @@
 pub mod VectorLemmas
 pub mod WordLemmas
 pub mod RowLemmas
+pub mod BucketLemmas

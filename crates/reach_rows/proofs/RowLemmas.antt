@@ -1,15 +1,13 @@
 -- What rows say of paths, as rows take others.
-use Rattle.std.proofs.Common.{◌≡◌, ℕ, zero, suc, ◌+◌, ◌-◌, ◌*◌, ◌/◌, ◌%◌, ◌<◌, ◌≤◌, List, [], ◌∷◌, ◌++◌, length, slice_index, drop, map, replicate, ◌⊎◌, inl, inr, refl, sym, ap, ◌∙◌, subst, arith, length-append}
+use Rattle.std.proofs.Common.{◌≡◌, ℕ, zero, suc, ◌+◌, ◌-◌, ◌*◌, ◌<◌, ◌≤◌, List, [], ◌∷◌, ◌++◌, length, slice_index, drop, map, ◌⊎◌, inl, inr, refl, sym, ap, ◌∙◌, subst, arith, length-append}
 use Rattle.std.proofs.lemmas.Bool.{cases_eq, cases_lt}
-use Rattle.std.proofs.lemmas.List.{get_or_append_left, get_or_push, get_or-map, length-map, drop_more, length-drop, get_or-drop, get_or-replicate, get_or_past, length-replicate}
-use Rattle.std.specs.Int.{bit_at}
-use Rattle.std.proofs.lemmas.Nat.Bits.{bit_at-zero}
+use Rattle.std.proofs.lemmas.List.{get_or_append_left, get_or_push, get_or-map, length-map, drop_more, length-drop, get_or-drop}
 use Rattle.shape_graphs.specs.declared.graph.Arc.{Arc}
 use Rattle.shape_graphs.specs.Arcs.{arc_at, EndsAreNodes}
 use Rattle.shape_graphs.specs.Orders.{IsArcOrder}
 use Rattle.shape_graphs.specs.Paths.{HasPath, IsAtOrReached, HaveArcsIn, step_arc}
 use Rattle.shape_graphs.specs.Paths.HasPath.{along_arc, arc_and_path}
-use Rattle.shape_graphs.proofs.Laws.{joined_paths, same_paths, path_by_first, path_through_first, no_path}
+use Rattle.shape_graphs.proofs.Laws.{joined_paths, same_paths, path_by_first, path_through_first}
 use Rattle.reach_rows.specs.Bits.{bit_in, IsSet, IsTaken, IsAdded, AreBitsOf}
 
 -- the row is taken: by what it was before
@@ -247,19 +245,6 @@ only_own_row words nodes a b old new arcs wide begins ends bits none taken x c h
         let stays : bit_in words new x c ≡ bit_in words old x c = taken.stay x c other (omega arith) in
         let both = apart_is_added words a b x old (not_reached other) c in
         (λ set. both.0 (sym stays ∙ set), λ added. stays ∙ both.1 added)
-
--- no bit is set, and no path leads
-pub none_set : (words nodes n : ℕ) (bits : List ℕ) → bits ≡ replicate n 0 → AreBitsOf words bits nodes []
-none_set words nodes n bits is a b ha hb = (set, λ path. absurd (no_path a b path))
-  where
-    at_zero : (i : ℕ) → (i < n) ⊎ (n ≤ i) → slice_index bits i ≡ 0
-    at_zero i (inl inside) = ap (λ (l : List ℕ). slice_index l i) is ∙ get_or-replicate n i 0 0 inside
-    at_zero i (inr past) = ap (λ (l : List ℕ). slice_index l i) is ∙ get_or_past (replicate n 0) i 0 (omega (arith, length-replicate {A = ℕ} n 0, past))
-
-    set : IsSet words bits a b → HasPath [] a b
-    set one =
-        let zeros : bit_in words bits a b ≡ 0 = ap (λ (w : ℕ). bit_at w (b % 64)) (at_zero (a * words + b / 64) (cases_lt (a * words + b / 64) n)) ∙ bit_at-zero (b % 64) in
-        absurd (omega (arith, one, zeros))
 
 -- the arcs of a list of numbers
 abbrev pub arcs_at : List Arc → List ℕ → List Arc

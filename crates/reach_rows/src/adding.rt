@@ -2,11 +2,14 @@
 
 ghost use Rattle.std.specs.Prelude.{◌≡◌, ◌++◌, ◌∷◌, [], ℕ, ◌+◌, ◌*◌, ◌<◌, ◌≤◌, List, length};
 ghost use Rattle.shape_graphs.specs.declared.graph.Arc.{Arc};
-ghost use Rattle.shape_graphs.specs.Arcs.{EndsAreNodes};
+ghost use Rattle.shape_graphs.specs.Arcs.{AreArcsWithin, EndsAreNodes};
+ghost use Rattle.shape_graphs.specs.Flows.{IsSolution, number_at};
 ghost use Rattle.shape_graphs.specs.Orders.{IsArcOrder};
 ghost use Rattle.reach_rows.specs.Bits.{bit_in, IsSet, IsAdded, AreBitsOf};
+ghost use Rattle.reach_rows.specs.inner.Buckets.{AreInBuckets, HaveBuckets};
 
 use crate::bits::{has_bit, take_row};
+use crate::buckets::Buckets;
 use shape_graphs::Arc;
 
 /// The rows of all arcs, from those of none. No arc that is still to come ends at a node from
@@ -24,6 +27,42 @@ pub(crate) fn take_in_order(bits: &mut [u64], words: usize, nodes: u32, arcs: &[
         k -= 1;
         let arc = arcs[order[k] as usize];
         take_row(bits, words, arc.from as usize, arc.to);
+    }
+}
+
+/// The rows of all arcs, from those of none, where numbers on the nodes solve the graph. The arcs
+/// are taken bucket by bucket, from the greatest number down, so that none that is still to come
+/// ends at a node from which arcs were taken.
+#[tactic(auto, using(crate::proofs::WordLemmas::row_fits))]
+pub(crate) fn take_by_bucket(
+    bits: &mut [u64],
+    words: usize,
+    nodes: u32,
+    arcs: &[Arc],
+    numbers: &[i64],
+    buckets: &Buckets,
+)
+    requires room { length bits.old ≡ nodes * words }
+    requires wide { nodes ≤ 64 * words }
+    requires one_for_each { length numbers.now ≡ nodes }
+    requires ends { EndsAreNodes nodes arcs.now }
+    requires within { AreArcsWithin arcs.now }
+    requires solution { IsSolution arcs.now (number_at numbers.now) }
+    requires have { HaveBuckets numbers.now }
+    requires buckets { AreInBuckets arcs.now numbers.now
+        buckets.now.last.items buckets.now.before.items }
+    requires none { AreBitsOf words bits.old nodes [] }
+    ensures { AreBitsOf words bits.new nodes arcs.now }
+{
+    let mut number = numbers.len();
+    while number > 0 {
+        number -= 1;
+        let mut entry = buckets.last[number];
+        while entry > 0 {
+            let i = entry as usize - 1;
+            take_row(bits, words, arcs[i].from as usize, arcs[i].to);
+            entry = buckets.before[i];
+        }
     }
 }
 

@@ -6,6 +6,7 @@
 
 mod adding;
 mod bits;
+mod buckets;
 mod rows;
 
 pub use rows::ReachRows;

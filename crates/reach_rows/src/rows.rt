@@ -1,10 +1,11 @@
 //! The rows of a graph, and what an added arc changes in them.
 
-ghost use Rattle.std.specs.Prelude.{◌≡◌, ◌↔◌, ◌++◌, ◌∷◌, [], ◌*◌, ◌<◌, ◌≤◌, List, vec_len};
+ghost use Rattle.std.specs.Prelude.{◌≡◌, ◌↔◌, ◌++◌, ◌∷◌, [], ◌*◌, ◌<◌, ◌≤◌, List, length, vec_len};
 ghost use Rattle.std.specs.Prelude.{IsTrue, IfOk};
 
-use crate::adding::{add, add_one_by_one, take_in_order};
+use crate::adding::{add, add_one_by_one, take_by_bucket, take_in_order};
 use crate::bits::has_bit;
+use crate::buckets::{buckets_of, have_buckets};
 use compact_types::NoMemory;
 use shape_graphs::{DiffGraph, arcs_in_order};
 use std::alloc::Global;
@@ -23,6 +24,7 @@ pub struct ReachRows {
 
 impl ReachRows {
     ghost use Rattle.shape_graphs.specs.declared.graph.Arc.{Arc};
+    ghost use Rattle.shape_graphs.specs.Flows.{IsSolution, number_at};
     ghost use Rattle.shape_graphs.specs.Paths.{HasPath};
     ghost use Rattle.reach_rows.specs.Reaching.{AreRowsOf};
 
@@ -32,26 +34,48 @@ impl ReachRows {
         ensures { IfOk result (λ rows. AreRowsOf rows graph.now.nodes graph.now.arcs) }
     {
         let order = arcs_in_order(alloc, graph)?;
-        let words = graph.nodes.div_ceil(64) as usize;
-        let mut bits = vec![in alloc; 0u64; graph.nodes as usize * words]?;
+        let mut rows = ReachRows::of_no_arcs(alloc, graph.nodes)?;
+        let (nodes, words) = (rows.nodes, rows.words);
+        let bits = rows.bits.as_mut_slice();
         let arcs = graph.arcs.as_slice();
         match order {
-            Some(order) => {
-                take_in_order(
-                    bits.as_mut_slice(),
-                    words,
-                    graph.nodes,
-                    arcs,
-                    order.as_slice(),
-                );
-            }
-            None => add_one_by_one(bits.as_mut_slice(), words, graph.nodes, arcs),
+            Some(order) => take_in_order(bits, words, nodes, arcs, order.as_slice()),
+            None => add_one_by_one(bits, words, nodes, arcs),
         }
-        Ok(ReachRows {
-            nodes: graph.nodes,
-            words,
-            bits,
-        })
+        Ok(rows)
+    }
+
+    /// The rows of a graph that numbers on its nodes solve, as coordinates do. The numbers of least
+    /// places are from 0 on and below the number of nodes: then no topological order is searched,
+    /// since the numbers are one.
+    pub fn by_numbers(
+        alloc: Global,
+        graph: &DiffGraph,
+        numbers: &[i64],
+    ) -> Result<ReachRows, NoMemory>
+        requires one_for_each { length numbers.now ≡ graph.now.nodes }
+        requires solution { IsSolution graph.now.arcs (number_at numbers.now) }
+        ensures { IfOk result (λ rows. AreRowsOf rows graph.now.nodes graph.now.arcs) }
+    {
+        if !have_buckets(numbers) {
+            return ReachRows::of(alloc, graph);
+        }
+        let arcs = graph.arcs.as_slice();
+        let buckets = buckets_of(alloc, arcs, numbers)?;
+        let mut rows = ReachRows::of_no_arcs(alloc, graph.nodes)?;
+        let (nodes, words) = (rows.nodes, rows.words);
+        let bits = rows.bits.as_mut_slice();
+        take_by_bucket(bits, words, nodes, arcs, numbers, &buckets);
+        Ok(rows)
+    }
+
+    /// The rows of a graph without arcs.
+    fn of_no_arcs(alloc: Global, nodes: u32) -> Result<ReachRows, NoMemory>
+        ensures { IfOk result (λ rows. AreRowsOf rows nodes []) }
+    {
+        let words = nodes.div_ceil(64) as usize;
+        let bits = vec![in alloc; 0u64; nodes as usize * words]?;
+        Ok(ReachRows { nodes, words, bits })
     }
 
     /// Whether a path of at least one arc leads from `a` to `b`.

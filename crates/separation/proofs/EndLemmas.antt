@@ -13,14 +13,17 @@ use Rattle.compact_types.specs.declared.places.Axis.{Axis}
 use Rattle.compact_types.specs.declared.places.Axis.TheVariants.{X, Y}
 use Rattle.compact_types.specs.declared.places.Places.{Places}
 use Rattle.compact_types.specs.declared.plan.Shape.{Shape}
+use Rattle.compact_types.specs.declared.search.Choice.{Choice}
 use Rattle.compact_types.specs.Drawings.{HasWays}
 use Rattle.compact_types.specs.Lookups.{along, place, other_axis}
 use Rattle.bars.specs.Segments.{segment_count, node_of, node_count, low_node, high_node}
 use Rattle.bars.specs.Lines.{line_count}
-use Rattle.bars.specs.Solutions.{HasDrawing}
+use Rattle.bars.specs.Solutions.{HasDrawing, Fit, Solves}
 use Rattle.bars.proofs.Laws.{low_below, high_below, line_below, level_node, few_lines, few_segments}
 use Rattle.separation.specs.declared.extents.SegmentExtent.{SegmentExtent}
-use Rattle.shape_graphs.specs.Flows.{number_at}
+use Rattle.shape_graphs.specs.Flows.{number_at, IsSolution}
+use Rattle.shape_graphs.specs.Graphs.{arcs_of}
+use Rattle.shape_graphs.proofs.Laws.{comes_from, meets_arcs, solid_from}
 use Rattle.separation.specs.inner.Extents.{nowhere, extent_at, IsAtNode, AreAtNodes, IsExtent, BeginInOrder, ArePut, HasRoom, meet_in_x, meet_in_y, overlap, turned_along, AreTurned, AreExtents, IsExtentAlong, AreExtentsAlong}
 
 -- the nodes of a segment and of a vertex are within the room for all nodes
@@ -90,6 +93,18 @@ numbers_one_more axis shape places numbers v n z ways vertex room is next before
 -- the number at the node of the vertices
 pub at_node : (axis : Axis) (shape : Shape) (places : Places) (numbers : List ℤ) (node : ℕ) → AreAtNodes axis shape places shape.plan.vertices numbers → IsAtNode axis shape places node (number_at numbers node)
 at_node axis shape places numbers node are v vertex same = are v vertex ∙ ap (number_at numbers) same
+
+-- the coordinates of the nodes, in places that solve the choices, solve the graphs
+pub coordinates_solve : (axis : Axis) (shape : Shape) (choices : List Choice) (places : Places) (numbers : List ℤ) → HasDrawing shape → Fit shape choices →
+    Solves shape choices places → AreAtNodes axis shape places shape.plan.vertices numbers → IsSolution (arcs_of axis shape choices) (number_at numbers)
+coordinates_solve axis shape choices places numbers drawing fit solves are i within =
+    let solid = solid_from shape choices drawing fit axis _ (comes_from axis shape choices i within) in
+    let from = solid.from in
+    let to = solid.to in
+    let met = meets_arcs shape choices drawing fit places solves axis i within from.0 to.0 from.1 to.1 from.2 to.2 in
+    let low = at_node axis shape places numbers _ are from.0 from.1 from.2 in
+    let high = at_node axis shape places numbers _ are to.0 to.1 to.2 in
+    omega (arith, ints, met, low, high)
 
 -- there is room for all nodes where there is room for all vertices
 pub few_nodes : (axis : Axis) (shape : Shape) (room : ℕ) → shape.plan.vertices ≤ room → node_count axis shape ≤ room

@@ -47,7 +47,8 @@ pub(crate) fn has_room(bars: &Bars, room: u32) -> bool
 }
 
 /// Puts the extents of all segments in the order in which they begin, along the axis along which
-/// they reach farther: there fewer of them overlap.
+/// they reach farther: there fewer of them overlap. `xs` and `ys` are left with the coordinates of
+/// the nodes.
 pub(crate) fn put_in_order(
     extents: &mut [SegmentExtent],
     xs: &mut [i64],
@@ -64,6 +65,10 @@ pub(crate) fn put_in_order(
     ensures seen { (s t : ℕ) → IsPair bars.now s t → IsSeen extents.new s t }
     ensures extents { HasWays bars.now places.now →
         (axis : Axis) × AreExtentsAlong axis bars.now places.now extents.new }
+    ensures xs { HasWays bars.now places.now →
+        AreAtNodes axes.X bars.now places.now bars.now.plan.vertices xs.new }
+    ensures ys { HasWays bars.now places.now →
+        AreAtNodes axes.Y bars.now places.now bars.now.plan.vertices ys.new }
 {
     put_extents(extents, xs, ys, bars, places);
     turn_if_higher(extents);
@@ -86,6 +91,10 @@ pub(crate) fn put_extents(
     ensures len { length extents.new ≡ length extents.old }
     ensures segment { (s : ℕ) → s < length extents.old → (extent_at extents.new s).segment ≡ s }
     ensures extents { HasWays bars.now places.now → AreExtents bars.now places.now extents.new }
+    ensures xs { HasWays bars.now places.now →
+        AreAtNodes axes.X bars.now places.now bars.now.plan.vertices xs.new }
+    ensures ys { HasWays bars.now places.now →
+        AreAtNodes axes.Y bars.now places.now bars.now.plan.vertices ys.new }
 {
     put_coordinates(xs, bars, places, Axis::X);
     put_coordinates(ys, bars, places, Axis::Y);

@@ -1,10 +1,12 @@
 //! The four sides of a pair of segments, looked up in the rows of the two graphs.
 
-ghost use Rattle.std.specs.Prelude.{◌≡◌, ◌<◌, ◌↔◌, IsTrue, IfOk, List};
+ghost use Rattle.std.specs.Prelude.{◌≡◌, ◌<◌, ◌↔◌, IsTrue, IfOk, List, length};
+ghost use Rattle.compact_types.specs.declared.places.Axis.TheVariants as axes;
 ghost use Rattle.compact_types.specs.declared.search.Choice.{Choice as AnyChoice};
 ghost use Rattle.bars.specs.Segments.{node_count, IsPair};
 ghost use Rattle.bars.specs.Sides.{side_axis};
 ghost use Rattle.bars.specs.Solutions.{Fit, with_choice};
+ghost use Rattle.shape_graphs.specs.Flows.{IsSolution, number_at};
 ghost use Rattle.shape_graphs.specs.Graphs as graphs;
 ghost use Rattle.shape_graphs.specs.Graphs.{arcs_of};
 ghost use Rattle.shape_graphs.specs.Paths.{HasPath};
@@ -70,6 +72,29 @@ pub fn reach_of(alloc: Global, bars: &Bars, extension: &Extension) -> Result<Rea
     let (columns, rows) = graphs_of(alloc, bars, extension)?;
     let x = ReachRows::of(alloc, &columns)?;
     let y = ReachRows::of(alloc, &rows)?;
+    Ok(Reach { x, y })
+}
+
+/// The rows of the two graphs of the extension, by coordinates of the columns and of the rows that
+/// solve them.
+pub(crate) fn reach_by_coordinates(
+    alloc: Global,
+    bars: &Bars,
+    extension: &Extension,
+    xs: &[i64],
+    ys: &[i64],
+) -> Result<Reach, NoMemory>
+    requires fit { Fit bars.now extension.now.choices }
+    requires one_for_each_column { length xs.now ≡ node_count axes.X bars.now }
+    requires one_for_each_row { length ys.now ≡ node_count axes.Y bars.now }
+    requires columns { IsSolution (arcs_of axes.X bars.now extension.now.choices)
+        (number_at xs.now) }
+    requires rows { IsSolution (arcs_of axes.Y bars.now extension.now.choices) (number_at ys.now) }
+    ensures { IfOk result (IsReachOf bars.now extension.now.choices) }
+{
+    let (columns, rows) = graphs_of(alloc, bars, extension)?;
+    let x = ReachRows::by_numbers(alloc, &columns, xs)?;
+    let y = ReachRows::by_numbers(alloc, &rows, ys)?;
     Ok(Reach { x, y })
 }
 

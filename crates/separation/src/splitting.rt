@@ -11,7 +11,7 @@ ghost use Rattle.separation.specs.inner.Extents.{HasRoom};
 
 use crate::candidates::fewest_open;
 use crate::extents::{NOWHERE, ROOM, SegmentExtent, has_room, put_in_order};
-use crate::sides::reach_of;
+use crate::sides::reach_by_coordinates;
 use crate::sweep::{START, next_sharing};
 use bars::Bars;
 use compact_types::{Extension, NoMemory, Places};
@@ -87,11 +87,13 @@ fn splitting_with(
         (λ pair. IsBranchPair bars.now extension.now.choices places.now pair.0 pair.1)) }
 {
     let extents = &mut room[..bars.bars() as usize];
+    let xs = &mut xs[..bars.columns() as usize];
+    let ys = &mut ys[..bars.rows() as usize];
     put_in_order(extents, xs, ys, bars, places);
     let Some(first) = next_sharing(bars, extents, START) else {
         return Ok(None);
     };
-    let reach = reach_of(alloc, bars, extension)?;
+    let reach = reach_by_coordinates(alloc, bars, extension, xs, ys)?;
     let found = fewest_open(bars, &reach, extents, first);
     Ok(Some((found.s, found.t)))
 }
