@@ -151,7 +151,7 @@ improved_by_least {P = P} objective Backs board who id verdict settling = by_ver
     by_verdict (Above bound stop proof) pair outcome = cc
     by_verdict (Least key proof) pair outcome = tt
 
--- a verdict is kept exactly where the branch is settled
+-- a verdict is kept exactly if the branch is settled
 pub verdict_settled : {P : Type 0} (objective : Objective) (Backs : Shape → List Choice → P → Verdict P → Type 0)
     (board : BoardView P) (id : ℕ) (found : Option (Verdict P)) → AreVerdictsKept objective Backs board →
     id < length board.verdicts → verdict_of board id ≡ found → IsSome found ↔ IsSettled (board_state board) id

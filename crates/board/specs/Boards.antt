@@ -55,8 +55,8 @@ abbrev pub after_claim : {P : Type 0} → BoardView P → ℕ → ℕ → BoardV
 after_claim board who id =
     record board { entries = board.entries ++ entries.Claimed who id ∷ [] }
 
--- The table of a claim: a stranger exactly where there is no branch of the number with the
--- choices; taken exactly where there is one that does not wait; and else the caller's.
+-- The table of a claim: a stranger exactly if there is no branch of the number with the
+-- choices; taken exactly if there is one that does not wait; and else the caller's.
 abbrev pub IsClaimAnswer : {P : Type 0} → BoardView P → ℕ → Branch → Claim → BoardView P → Type 0
 IsClaimAnswer old who branch Stranger new = (IsKnown (board_state old) branch → ⊥) × (new ≡ old)
 IsClaimAnswer old who branch Taken new =

@@ -188,7 +188,7 @@ impl<P: Backing> Board<P> {
         self.entries.as_slice()
     }
 
-    /// The verdict that settled the branch; `None` exactly where no branch of this number is
+    /// The verdict that settled the branch; `None` exactly if no branch of this number is
     /// settled. It takes no memory.
     pub fn verdict(&self, id: u64) -> Option<&Verdict<P>>
         ensures verdict { option_copied result ≡ verdict_of self.now id }
@@ -233,7 +233,7 @@ impl<P: Backing> Board<P> {
         }
     }
 
-    /// A copy of the waiting branch with the greatest number; `None` exactly where no branch waits.
+    /// A copy of the waiting branch with the greatest number; `None` exactly if no branch waits.
     pub fn latest_waiting(&self) -> Result<Option<Branch>, NoMemory>
         ensures latest { IfOk result (λ found. MatchOption found
             (NoneWaits (board_state self.now))

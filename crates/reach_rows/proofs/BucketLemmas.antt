@@ -123,7 +123,7 @@ module _ (words nodes number : ℕ) (bits : List ℕ) (arcs : List Arc) (numbers
       back i within (inl greater) = rw next greater
       back i within (inr inside) = absurd (last.none_between i inside.1 within inside.0)
 
-  -- and behind it
+  -- and after it
   pub bucket_ends : (entry : ℕ) → entry ≡ 0 → Are (IsFromEntry arcs numbers number entry) → Are (IsFrom arcs numbers number)
   bucket_ends entry none are =
       taken_alike words nodes bits arcs (IsFromEntry arcs numbers number entry) (IsFrom arcs numbers number) are forth

@@ -195,7 +195,7 @@ pub bits_of_same : (words nodes : ℕ) (bits : List ℕ) (arcs others : List Arc
 bits_of_same words nodes bits arcs others forth back are a b ha hb =
     (λ set. same_paths arcs others forth a b ((are a b ha hb).0 set), λ path. (are a b ha hb).1 (same_paths others arcs back a b path))
 
--- an arc before the others or behind them
+-- an arc before the others or after them
 last_to_first : (arc : Arc) (arcs : List Arc) → HaveArcsIn (arcs ++ arc ∷ []) (arc ∷ arcs)
 last_to_first arc arcs i within = by_place (cases_lt i (length arcs))
   where

@@ -25,14 +25,14 @@ pub record HasBitsOfBoth (words : List ℕ) (a b : ℕ) (vector : List ℕ) : Ty
   pub long : length vector ≡ LANES
   pub lanes : (k : ℕ) → k < LANES → slice_index vector k ≡ bit_or (slice_index words (a + k)) (slice_index words (b + k))
 
--- Bit c of row x is set, after an arc from a to b was added, exactly where it was before, or x is
+-- Bit c of row x is set, after an arc from a to b was added, exactly if it was before, or x is
 -- a or reaches it, and c is b or is reached from it.
 abbrev pub IsAdded : ℕ → List ℕ → ℕ → ℕ → ℕ → ℕ → Type 0 → Type 0
 IsAdded words old a b x c now =
     now ↔ (IsSet words old x c
     ⊎ (((x ≡ a) ⊎ IsSet words old x a) × ((c ≡ b) ⊎ IsSet words old b c)))
 
--- the rows of so many nodes are those of the arcs: a bit is set exactly where a path leads from
+-- the rows of so many nodes are those of the arcs: a bit is set exactly if a path leads from
 -- the node of the row to that of the bit
 abbrev pub AreBitsOf : ℕ → List ℕ → ℕ → List Arc → Type 0
 AreBitsOf words bits nodes arcs =

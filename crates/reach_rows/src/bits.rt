@@ -56,7 +56,7 @@ fn or_words(bits: &mut [u64], into: usize, from: usize, words: usize)
     }
 }
 
-/// One vector of the words, `done` behind the first, takes the bits of that from `from` on.
+/// One vector of the words, `done` after the first, takes the bits of that from `from` on.
 #[tactic(auto, using(crate::proofs::VectorLemmas::storing))]
 fn or_vector(bits: &mut [u64], into: usize, from: usize, done: usize)
     requires into { into + done + LANES ≤ length bits.old }

@@ -45,7 +45,7 @@ fn chains(alloc: Global, nodes: u32, second: u32) -> Result<DiffGraph, Fail>
     Ok(DiffGraph::of(nodes, arcs).ok_or("no graph")?)
 }
 
-/// Whether each node reaches exactly those behind it, of the two chains or of one from 0 on.
+/// Whether each node reaches exactly those after it, of the two chains or of one from 0 on.
 fn are_chains(rows: &ReachRows, nodes: u32, second: u32) -> bool
     requires { rows.now.nodes ≡ nodes }
 {

@@ -272,7 +272,7 @@ module _ (shape : Shape) (places : Places) (drawing : IsDrawing shape places) (a
   not_less : (x y : ℤ) → int_lt x y ≡ false → y ≤ℤ x
   not_less x y fails = grind (arith, ints)
 
-  -- an extent ends before another begins exactly where its segment stands before that of the other
+  -- an extent ends before another begins exactly if its segment stands before that of the other
   west_holds : int_lt a.right b.left ≡ true → StandsBefore X shape places a.segment b.segment
   west_holds less =
       let high = (bounds_of shape has_drawing places drawing.crossing_free.ways a is_a).right in

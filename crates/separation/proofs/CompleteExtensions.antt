@@ -91,7 +91,7 @@ module _ (shape : Shape) (drawing : HasDrawing shape) (places : Places) (ways : 
     abbrev rise_j : coordinate axis places (low_of shape j) <ℤ coordinate axis places (high_of shape j)
     rise_j = rises axis shape places ways j goes_j
 
-    -- of two pieces one behind the other not both have both ends in common
+    -- of two pieces one after the other not both have both ends in common
     apart_i_j : coordinate axis places (high_of shape i) ≤ℤ coordinate axis places (low_of shape j) → LowOfBoth shape i j → ⊥
     apart_i_j before (inl same) =
         let low : coordinate axis places (low_of shape i) ≡ coordinate axis places (low_of shape j) = ap (coordinate axis places) same.0 in

@@ -60,7 +60,7 @@ module _ (axis : Axis) (shape : Shape) (choices : List Choice) (s t side : ℕ) 
 pub own_nodes : (rows : ReachRows) (n : ℕ) (arcs : List Arc) → AreRowsOf rows n arcs → AreRowsOf rows rows.nodes arcs
 own_nodes rows n arcs are = subst (λ (m : ℕ). AreRowsOf rows m arcs) (sym are.nodes_of) are
 
--- a path stays where arcs come behind
+-- a path stays where arcs come after
 path_stays : (arcs others : List Arc) (a b : ℕ) → HasPath arcs a b → HasPath (arcs ++ others) a b
 path_stays arcs others a b (along_arc i within) = by_arc (get_or_append_left arcs others no_arc i within)
   where

@@ -8,7 +8,7 @@ use Rattle.separation.specs.Meetings.{ShareAPoint}
 use Rattle.separation.specs.Reaching.{HasOpenSides}
 
 -- the pair (s, t) with m open sides has fewer than the pair (u, v) with n, or as many and does not
--- stand behind it in list order
+-- stand after it in list order
 abbrev pub IsNotAfter : ℕ → ℕ → ℕ → ℕ → ℕ → ℕ → Type 0
 IsNotAfter m s t n u v = (m < n) ⊎ ((m ≡ n) × ((s < u) ⊎ ((s ≡ u) × (t ≤ v))))
 

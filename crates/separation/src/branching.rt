@@ -18,7 +18,7 @@ use bars::Bars;
 use compact_types::Places;
 
 /// The pair of segments that share a point in places that solve the choices, and not a vertex, with
-/// the fewest open sides; among equals the first in list order. `None` exactly where the places are
+/// the fewest open sides; among equals the first in list order. `None` exactly if the places are
 /// a drawing. It takes no memory.
 pub fn branch_pair(bars: &Bars, reach: &Reach, places: &Places) -> Option<(u32, u32)>
     requires places_fit { length places.now.xy ≡ bars.now.plan.vertices }

@@ -36,7 +36,7 @@ pub fn drawings_take_a_side()
         (side : ℕ) × (side < 4) × Solves shape (with_choice choices s t side) places }
 {}
 
-/// Places that solve the choices are a drawing exactly where no pair shares a point in them. A
+/// Places that solve the choices are a drawing exactly if no pair shares a point in them. A
 /// pair that does is neither separated by the choices nor the pair of one of them.
 pub fn drawings_are_apart()
     ensures drawing { (shape : Shape) (choices : List Choice) (places : Places) → HasDrawing shape →

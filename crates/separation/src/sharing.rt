@@ -16,7 +16,7 @@ use bars::Bars;
 use compact_types::Places;
 
 /// A pair of segments that share a point and not a vertex, in places that solve the choices: the
-/// first that is found. `None` exactly where the places are a drawing. It takes no memory.
+/// first that is found. `None` exactly if the places are a drawing. It takes no memory.
 pub fn sharing_pair(bars: &Bars, places: &Places) -> Option<(u32, u32)>
     requires places_fit { length places.now.xy ≡ bars.now.plan.vertices }
     ensures { (choices : List Choice) → Fit bars.now choices →

@@ -19,7 +19,7 @@ use std::alloc::Global;
 
 /// The pair at which a branch with these choices is split: of the pairs of segments that share a
 /// point in places that solve the choices, and not a vertex, the one with the fewest open sides,
-/// and among equals the first in list order. `None` exactly where the places are a drawing. It is
+/// and among equals the first in list order. `None` exactly if the places are a drawing. It is
 /// `branch_pair` with the reachability of the choices, which is made only where a pair is found.
 pub fn splitting_pair(
     alloc: Global,

@@ -30,8 +30,8 @@ pub record IsGranted (old : PassView) (branch : Branch) (new : PassView) : Type 
   pub sound : AreSound new.home.shape branch.choices.choices
   pub holding : IsHolding new branch.id
 
--- The table of a claim, by what the pass has seen after it: a stranger exactly where there is no
--- branch of the number with the choices; taken exactly where there is one that does not wait; and
+-- The table of a claim, by what the pass has seen after it: a stranger exactly if there is no
+-- branch of the number with the choices; taken exactly if there is one that does not wait; and
 -- else the caller's. The first two add no entry.
 abbrev pub IsClaimed : PassView → Branch → Claim → PassView → Type 0
 IsClaimed old branch Stranger new =

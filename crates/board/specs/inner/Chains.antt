@@ -33,7 +33,7 @@ pub record IsStepUp (lists : List (List Choice)) (id : ℕ) (step : StepUp) : Ty
   pub chain : chain_at lists id ≡ chain_at lists step.parent ++ step.choice ∷ []
 
 -- A walk up from a branch that compares its choices from the last on: the branch has these choices
--- exactly where the branch that is reached has the first of them, which are left.
+-- exactly if the branch that is reached has the first of them, which are left.
 pub record IsChainWalk (lists : List (List Choice)) (id : ℕ) (choices : List Choice) (at left : ℕ) :
     Type 0 where
   pub below : at < length lists

@@ -31,7 +31,7 @@ ghost use Rattle.board.specs.Histories.{
 ghost use Rattle.board.specs.Tellings.{IsTold};
 ghost use Rattle.board.specs.Works.{work_left};
 
-/// A legal history with entries added is legal exactly where each of them fits what stands before
+/// A legal history with entries added is legal exactly if each of them fits what stands before
 /// it, and what stands after it is what they make of what stood.
 pub fn histories_grow()
     ensures replayed { (history rest : List Entry) →

@@ -1,4 +1,4 @@
-//! A pair that shares a point, on the spine and behind a stair that needs more room.
+//! A pair that shares a point, on the spine and after a stair that needs more room.
 
 use super::examples::{Example, example_of};
 use super::spine;
