@@ -45,9 +45,9 @@ impl ReachRows {
         Ok(rows)
     }
 
-    /// The rows of a graph that numbers on its nodes solve, as coordinates do. The numbers of least
-    /// places are from 0 on and below the number of nodes: then no topological order is searched,
-    /// since the numbers are one.
+    /// The rows of a graph that numbers on its nodes solve, as coordinates do. Where all are from 0
+    /// on and below how many there are, as those of least places, no topological order is searched:
+    /// the arcs are taken by the numbers at which they begin. Else it does what `of` does.
     pub fn by_numbers(
         alloc: Global,
         graph: &DiffGraph,
