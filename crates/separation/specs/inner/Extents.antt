@@ -10,7 +10,7 @@ use Rattle.bars.specs.Segments.{segment_count, node_of, node_count, low_node, hi
 use Rattle.shape_graphs.specs.Flows.{number_at}
 use Rattle.separation.specs.declared.extents.SegmentExtent.{SegmentExtent}
 
--- the extent that is taken for  that is not there
+-- the extent that is taken for one that is not there
 abbrev pub nowhere : SegmentExtent
 nowhere = record { segment = 0; left = pos 0; right = pos 0; low = pos 0; high = pos 0 }
 
