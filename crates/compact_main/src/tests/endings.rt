@@ -16,7 +16,7 @@ const USAGE: &[u8] =
 fn bad_words<'a>(name: &'a str, words: &'a [&'a str]) -> Row<'a> {
     Row {
         words,
-        failing: &[1],
+        failing_reads: &[1],
         ..ended(name, TWO_NODES, Status::BadWords, USAGE)
     }
 }
@@ -69,7 +69,7 @@ fn ends_by_words_and_faults(rt: HostRuntime) -> Result<(), Fail> {
             )
         },
         Row {
-            failing: &[2],
+            failing_reads: &[2],
             ..ended(
                 "a read fails",
                 TWO_NODES,

@@ -24,7 +24,12 @@ struct Flaw<'a> {
 }
 
 /// A run of `verify` on a text that is not proved.
-fn not_proved<'a>(name: &'a str, text: &'a [u8], unproved: Unproved, line: &'a [u8]) -> Row<'a> {
+pub(super) fn not_proved<'a>(
+    name: &'a str,
+    text: &'a [u8],
+    unproved: Unproved,
+    line: &'a [u8],
+) -> Row<'a> {
     Row {
         words: VERIFY,
         ..ended(name, text, Status::NotProved(unproved), line)

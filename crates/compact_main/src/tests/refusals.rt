@@ -12,7 +12,13 @@ use std::test::Fail;
 use std::thread::Threads;
 
 /// A run of `draw --plain` on a text that has no tree.
-fn no_gml<'a>(name: &'a str, text: &'a [u8], kind: GmlKind, at: u32, line: &'a [u8]) -> Row<'a> {
+pub(super) fn no_gml<'a>(
+    name: &'a str,
+    text: &'a [u8],
+    kind: GmlKind,
+    at: u32,
+    line: &'a [u8],
+) -> Row<'a> {
     refused(name, text, Why::Gml(GmlFault { at, kind }), line)
 }
 
@@ -71,7 +77,12 @@ pub(super) fn no_drawing<'a>(
 }
 
 /// A run of `draw --plain` on a text with a numeral at byte 35 that is no coordinate.
-fn no_number<'a>(name: &'a str, text: &'a [u8], cause: NumberFault, line: &'a [u8]) -> Row<'a> {
+pub(super) fn no_number<'a>(
+    name: &'a str,
+    text: &'a [u8],
+    cause: NumberFault,
+    line: &'a [u8],
+) -> Row<'a> {
     no_drawing(name, text, DrawFault::BadNumber { at: 35, cause }, line)
 }
 

@@ -9,14 +9,15 @@ use std::process::Abort;
 use std::test::Fail;
 use std::thread::Threads;
 
-/// A run on a text that comes in pieces of 16 bytes, where the reads of `failing` fail, into a sink
-/// with so much room.
+/// A run on a text that comes in pieces of 16 bytes, into a sink with so much room that takes 7 bytes
+/// at a time. The reads and the writes of these numbers fail.
 #[derive(Clone, Copy)]
 pub(super) struct Row<'a> {
     pub(super) name: &'a str,
     pub(super) words: &'a [&'a str],
     pub(super) text: &'a [u8],
-    pub(super) failing: &'a [u64],
+    pub(super) failing_reads: &'a [u64],
+    pub(super) failing_writes: &'a [u64],
     pub(super) room: usize,
     pub(super) status: Status,
     pub(super) written: &'a [u8],
@@ -37,7 +38,8 @@ pub(super) fn drawn<'a>(name: &'a str, text: &'a [u8], written: &'a [u8]) -> Row
         name,
         words: PLAIN,
         text,
-        failing: &[],
+        failing_reads: &[],
+        failing_writes: &[],
         room: 2000,
         status: Status::Done,
         written,
@@ -64,7 +66,7 @@ pub(super) fn measured<'a>(name: &'a str, text: &'a [u8], written: &'a [u8]) -> 
 /// A run with these words that reads nothing, not even where a read would fail, and writes this.
 pub(super) fn unread<'a>(words: &'a [&'a str], written: &'a [u8]) -> Row<'a> {
     Row {
-        failing: &[1],
+        failing_reads: &[1],
         ..asked(words, b"", written)
     }
 }
@@ -116,8 +118,8 @@ pub(super) fn assert_run<R: Abort + Threads + Sync>(
     let (name, command) = (row.name, command_of(row));
     let words = words_of(alloc, row.words)?;
     let text = Vec::from_slice(alloc, row.text)?;
-    let mut source = MemorySource::new(text, 16, Vec::from_slice(alloc, row.failing)?);
-    let mut out = sink_of(alloc, row.room, &[])?;
+    let mut source = MemorySource::new(text, 16, Vec::from_slice(alloc, row.failing_reads)?);
+    let mut out = sink_of(alloc, row.room, row.failing_writes)?;
     let mut notes = sink_of(alloc, 100, &[])?;
     let status = run_alone(
         rt,

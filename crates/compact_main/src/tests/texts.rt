@@ -256,3 +256,11 @@ pub const BAD_POINT: &[u8] = b"graph [
 ";
 
 pub const APART: &[u8] = b"refused: vertex 2 is not joined\n";
+
+/// A power of ten that no 64 bits hold.
+pub const VAST: &[u8] = b"graph [\n  node [ id 0 graphics [ x 1e99999999999999999999 y 0 ] ]\n]\n";
+
+pub const TINY: &[u8] = b"graph [\n  node [ id 0 graphics [ x 1e-99999999999999999999 y 0 ] ]\n]\n";
+
+pub const VAST_NOTHING: &[u8] =
+    b"graph [\n  node [ id 0 graphics [ x 0e99999999999999999999 y 0 ] ]\n]\n";
