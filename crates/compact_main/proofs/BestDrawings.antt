@@ -42,7 +42,7 @@ use Rattle.compact_main.proofs.ReadShapes.{few_segments_sound, sound_shape}
 abbrev last_choice : ℕ → ℕ → ℕ → Choice
 last_choice s t side = record { s = s; t = t; side = side }
 
--- the choice at a place, and behind it, where one more is added
+-- the choice at a place, and after it, where one more is added
 still_there : (choices : List Choice) (s t side j : ℕ) → j < length choices → choice_at (with_choice choices s t side) j ≡ choice_at choices j
 still_there choices s t side j within = get_or_append_left choices (last_choice s t side ∷ []) (last_choice 0 0 0) j within
 

@@ -61,7 +61,7 @@ cut_twice zero xs ys = refl
 cut_twice (suc room) [] ys = refl
 cut_twice (suc room) (x ∷ xs) ys = ap (λ zs. x ∷ zs) (cut_twice room xs ys)
 
--- a front of the text, as long as there is room, was put behind what is held
+-- a front of the text, as long as there is room, was put after what is held
 pub fitted : (held text part new : List ℕ) (count : ℕ) → length held ≤ NOTE_ROOM →
     count ≡ min (NOTE_ROOM - length held) (length text) → part ≡ take count text → new ≡ held ++ part → IsAppended held new text
 fitted held text part new count within most front is =

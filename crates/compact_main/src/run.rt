@@ -57,7 +57,7 @@ pub fn run_alone<S: Source, K: Sink, N: Sink, R: Threads + Sync>(
 /// `run_alone`; several may wait for one another, and what is promised holds where this returns.
 ///
 /// Neither the number of workers nor their schedule changes the drawing that is written. The
-/// certificate behind it may be another one, which shows the same. Each of several workers passes
+/// certificate after it may be another one, which shows the same. Each of several workers passes
 /// the gate with each branch that it claims.
 pub fn run<S: Source, K: Sink, N: Sink, G: Gate, R: Threads + Wait + Sync>(
     rt: &R,

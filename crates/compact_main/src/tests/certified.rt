@@ -13,14 +13,14 @@ const DRAW: &[&str] = &["draw"];
 
 const DRAW_AT_50: &[&str] = &["draw", "--pitch", "50"];
 
-/// One text behind the other.
+/// One text after the other.
 pub(super) fn joined(alloc: Global, front: &[u8], back: &[u8]) -> Result<Vec<u8>, AllocError> {
     let mut text = Vec::from_slice(alloc, front)?;
     text.extend_from_slice(back)?;
     Ok(text)
 }
 
-/// A text, what is drawn for it, and the lines of the certificate behind that.
+/// A text, what is drawn for it, and the lines of the certificate after that.
 #[derive(Clone, Copy)]
 struct Certified<'a> {
     words: &'a [&'a str],

@@ -38,7 +38,7 @@ fn assert_each_read<R: Abort + Threads + Sync>(
         assert_run(rt, alloc, &failed)?;
     }
     let done = Row {
-        name: "a read behind the end would fail",
+        name: "a read after the end would fail",
         failing_reads: &[end + 1],
         ..*row
     };
@@ -67,7 +67,7 @@ fn assert_each_write<R: Abort + Threads + Sync>(
     }
     let last = row.written.len().div_ceil(7) as u64;
     let done = Row {
-        name: "a write behind the last would fail",
+        name: "a write after the last would fail",
         failing_writes: &[last + 1],
         ..*row
     };

@@ -13,7 +13,7 @@ use std::process::Abort;
 use std::test::Fail;
 use std::thread::Threads;
 
-/// A drawing and the lines behind it that do not prove it, and why.
+/// A drawing and the lines after it that do not prove it, and why.
 #[derive(Clone, Copy)]
 struct Flaw<'a> {
     name: &'a str,
@@ -50,7 +50,7 @@ fn assert_flaw<R: Abort + Threads + Sync>(rt: &R, alloc: Global, flaw: &Flaw) ->
     assert_run(rt, alloc, &row)
 }
 
-/// A fault of the text of the certificate behind the hook.
+/// A fault of the text of the certificate after the hook.
 fn no_text<'a>(
     name: &'a str,
     certificate: &'a [u8],

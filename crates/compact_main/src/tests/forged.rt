@@ -28,10 +28,10 @@ struct Change<'a> {
 
 /// The text with the new words in place of the first old ones.
 fn changed(alloc: Global, text: &str, old: &str, new: &str) -> Result<String, Fail> {
-    let (before, behind) = text.split_once(old).ok_or("the old words")?;
+    let (before, after) = text.split_once(old).ok_or("the old words")?;
     let mut changed = String::from_str(alloc, before)?;
     changed.push_str(new)?;
-    changed.push_str(behind)?;
+    changed.push_str(after)?;
     Ok(changed)
 }
 
@@ -105,7 +105,7 @@ fn deep_certificate(alloc: Global, splits: u32) -> Result<String, AllocError>
     }
     text.push_str("#! bound x 1:2 2:1 y 0:1 1:1\n")?;
     for above in 1..splits {
-        // The arc behind the two of the pieces and those of the splits above.
+        // The arc after the two of the pieces and those of the splits above.
         let arc = splits - above + 2;
         let cycle = format!(in alloc; "#! cycle x 0 {arc}\n#! cycle y 0 2\n")?;
         text.push_str(cycle.as_str())?;

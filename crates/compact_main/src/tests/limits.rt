@@ -85,7 +85,7 @@ fn reads_up_to_four_thousand_pieces(rt: HostRuntime) -> Result<(), Fail> {
     assert_long(&rt, rt.alloc(), &row)
 }
 
-/// A text with a comment behind it that makes it so long.
+/// A text with a comment after it that makes it so long.
 fn with_comment(alloc: Global, text: &[u8], length: usize) -> Result<Vec<u8>, AllocError> {
     let mut long = Vec::from_slice(alloc, text)?;
     let hashes = vec![in alloc; b'#'; length.saturating_sub(text.len())]?;

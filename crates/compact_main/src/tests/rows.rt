@@ -9,7 +9,7 @@ use std::process::Abort;
 use std::test::Fail;
 use std::thread::Threads;
 
-/// A run on a text that comes in pieces of 16 bytes, into a sink with so much room that takes 7 bytes
+/// A run on a text that comes in pieces of 16 bytes, into a sink with this room that takes 7 bytes
 /// at a time. The reads and the writes of these numbers fail.
 #[derive(Clone, Copy)]
 pub(super) struct Row<'a> {
